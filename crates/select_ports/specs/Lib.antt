@@ -1,0 +1,3 @@
+pub mod Causes
+pub mod Stored
+pub mod Streams

@@ -1,0 +1,13 @@
+//! The world outside the engine as five traits, whose calls fail only where a count of faults rose: a store of objects,
+//! an input, an output and a sink of frames, each in memory and over the real thing.
+#![tactic(auto)]
+
+mod frame_sink;
+mod outcome;
+mod store;
+mod streams;
+
+pub use frame_sink::{FrameSink, Plain};
+pub use outcome::{Failed, Limits, Range};
+pub use store::{Found, Store};
+pub use streams::{Sink, Source, write_all};
