@@ -19,14 +19,15 @@ print_header h = length h.name ∷ h.name ++ 7 ∷ to_be_bytes w16 (length h.val
 abbrev pub print_headers : List Header → List ℕ
 print_headers headers = flat_map print_header headers
 
--- total length (4), headers length (4)
-unfoldable pub lengths : ℕ → ℕ → List ℕ
-lengths headers payload = to_be_bytes w32 (headers + payload + 16) ++ to_be_bytes w32 headers
-
 -- the bytes and their CRC (4)
 unfoldable pub sealed : List ℕ → List ℕ
 sealed bytes = bytes ++ to_be_bytes w32 (crc_of bytes)
 
+-- total length (4), headers length (4) and their CRC
+unfoldable pub prelude_of : ℕ → ℕ → List ℕ
+prelude_of total headers = sealed (to_be_bytes w32 total ++ to_be_bytes w32 headers)
+
 -- the message with these header bytes and this payload
 unfoldable pub message_of : List ℕ → List ℕ → List ℕ
-message_of headers payload = sealed (sealed (lengths (length headers) (length payload)) ++ headers ++ payload)
+message_of headers payload =
+    sealed (prelude_of (length headers + length payload + 16) (length headers) ++ headers ++ payload)

@@ -15,7 +15,6 @@ pub struct Counts {
 }
 
 // Makes `text` the payload of these counts, for the event of this name.
-
 pub(crate) fn print(text: &mut Vec<u8>, name: &[u8], counts: &Counts)
     requires name { length name.now ≤ 16 }
     requires room { 300 ≤ vec_capacity text.old }

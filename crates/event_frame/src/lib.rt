@@ -5,6 +5,8 @@ mod counts;
 mod crc;
 mod message;
 mod products;
+#[cfg(test)]
+mod tests;
 mod writer;
 
 pub use counts::Counts;

@@ -1,12 +1,12 @@
 // A message of the event stream encoding, written into a buffer that has room for it.
 
-ghost use Rattle.std.specs.Prelude.{◌≡◌, ℕ, ◌+◌, ◌^◌, ◌<◌, ◌≤◌, ◌++◌, length, vec_capacity};
-ghost use Rattle.event_frame.specs.Message.{message_of, sealed, print_header};
+ghost use Rattle.std.specs.Prelude.{◌≡◌, ℕ, ◌+◌, ◌^◌, ◌<◌, ◌≤◌, [], ◌++◌, length, vec_capacity};
+ghost use Rattle.event_frame.specs.Message.{prelude_of, message_of, sealed, print_header};
 
 use crate::crc::crc32;
 
 // Makes the buffer the message with these header bytes and this payload.
-#[tactic(auto, unfolding(crate::specs::Message::message_of, crate::specs::Message::lengths))]
+#[tactic(auto, unfolding(crate::specs::Message::message_of))]
 pub(crate) fn fill(buffer: &mut Vec<u8>, headers: &[u8], payload: &[u8])
     requires small { length headers.now + length payload.now + 16 < 2 ^ 32 }
     requires room { length headers.now + length payload.now + 16 ≤ vec_capacity buffer.old }
@@ -15,12 +15,24 @@ pub(crate) fn fill(buffer: &mut Vec<u8>, headers: &[u8], payload: &[u8])
 {
     let total = headers.len() + payload.len() + 16;
     buffer.clear();
-    put(buffer, &(total as u32).to_be_bytes());
-    put(buffer, &(headers.len() as u32).to_be_bytes());
-    seal(buffer);
+    begin(buffer, total as u32, headers.len() as u32);
     put(buffer, headers);
     put(buffer, payload);
     seal(buffer);
+}
+
+// Adds a prelude.
+#[tactic(auto, unfolding(crate::specs::Message::prelude_of), using(std::proofs::lemmas::Grind::common_steps))]
+fn begin(prelude: &mut Vec<u8>, total: u32, headers: u32)
+    requires empty { prelude.old.items ≡ [] }
+    requires room { 12 ≤ vec_capacity prelude.old }
+    ensures bytes { prelude.new.items ≡ prelude_of total headers }
+    ensures len { length prelude.new.items ≡ 12 }
+    ensures room { vec_capacity prelude.old ≤ vec_capacity prelude.new }
+{
+    put(prelude, &total.to_be_bytes());
+    put(prelude, &headers.to_be_bytes());
+    seal(prelude);
 }
 
 // Adds the CRC of all that stands in the buffer.
