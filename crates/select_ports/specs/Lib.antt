@@ -1,3 +1,5 @@
 pub mod Causes
+pub mod Memory
 pub mod Stored
 pub mod Streams
+pub mod Turns

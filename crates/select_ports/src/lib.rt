@@ -2,12 +2,19 @@
 //! an input, an output and a sink of frames, each in memory and over the real thing.
 #![tactic(auto)]
 
+mod count;
 mod frame_sink;
+mod memory_store;
+mod memory_streams;
 mod outcome;
+mod schedule;
+mod slices;
 mod store;
 mod streams;
 
 pub use frame_sink::{FrameSink, Plain};
+pub use memory_store::{MemObject, MemStore};
+pub use memory_streams::{MemSink, MemSource};
 pub use outcome::{Failed, Limits, Range};
 pub use store::{Found, Store};
 pub use streams::{Sink, Source, write_all};
