@@ -3,6 +3,7 @@
 #![tactic(auto)]
 
 mod count;
+mod file_store;
 mod frame_sink;
 mod memory_store;
 mod memory_streams;
@@ -15,6 +16,7 @@ mod std_streams;
 mod store;
 mod streams;
 
+pub use file_store::FileStore;
 pub use frame_sink::{FrameSink, Plain};
 pub use memory_store::{MemObject, MemStore};
 pub use memory_streams::{MemSink, MemSource};
