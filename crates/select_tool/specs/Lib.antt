@@ -6,4 +6,5 @@ pub mod Prepared
 pub mod Words
 pub mod Statuses
 pub mod Input
+pub mod Begun
 pub mod Events
