@@ -1,1 +1,5 @@
 pub mod Starts
+pub mod Sliding
+pub mod Answers
+pub mod Buffered
+pub mod Steps
