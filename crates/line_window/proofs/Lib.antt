@@ -1,1 +1,3 @@
 pub mod StartLaws
+pub mod ByteLaws
+pub mod WindowLaws
