@@ -1,3 +1,4 @@
 pub mod StartLaws
 pub mod ByteLaws
 pub mod WindowLaws
+pub mod ScanLaws

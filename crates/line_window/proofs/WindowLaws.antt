@@ -5,7 +5,10 @@ use Rattle.std.specs.Prelude.{nat_lt, if◌then◌else◌}
 use Rattle.line_window.specs.Starts.{is_start, starts_in, before_delimiter, body, content, without_mark, whole_len}
 use Rattle.line_window.specs.Sliding.{View, kept_from, place, left, Holds, IsSound, SameRules}
 use Rattle.line_window.specs.Answers.{IsLent}
-use Rattle.line_window.specs.Steps.{Grows, ahead}
+use Rattle.line_window.specs.declared.window.Sight.{Sight}
+use Rattle.line_window.specs.declared.window.Sight.TheVariants.{Start, More, Past}
+use Rattle.line_window.specs.Bytes.{HasNone, IsFirstAt}
+use Rattle.line_window.specs.Steps.{Grows, Shows, Skips, ahead}
 use Rattle.line_window.proofs.StartLaws.{take-drop-take-drop}
 use Rattle.line_window.proofs.ByteLaws.{clear_starts, start_first, start_behind, start_front, before-found, before-none, before-long}
 
@@ -204,7 +207,7 @@ grown old new piece sound rules lead kept upto within short near room =
         one_byte = ap length rules.delimiter ∙ sound.one_byte;
         lead = omega arith;
         front = λ none. omega (arith, sound.front (sym lead ∙ none));
-        begun = λ none. omega (arith, sound.begun (sym lead ∙ none));
+        begun = λ ahead. omega (arith, sound.begun (omega arith));
         limit = omega arith;
       };
       rules = rules;
@@ -212,4 +215,54 @@ grown old new piece sound rules lead kept upto within short near room =
       piece = piece;
       kept = kept;
       upto = upto;
+    }
+
+-- a window that passed kept bytes is sound
+pub sound_passed : (old new : View) (i : ℕ) → IsSound old → SameRules old new → new.upto ≡ old.upto → new.lead ≡ 1
+    → new.kept ≡ drop i old.kept → kept_from old + old.lead ≤ old.last → IsSound new
+sound_passed old new i sound rules upto lead kept near =
+    let len : length new.kept ≡ length old.kept - i = ap length kept ∙ length-drop i old.kept in
+    record {
+      kept = omega arith;
+      read = omega arith;
+      last = omega arith;
+      near = omega arith;
+      room = omega arith;
+      one_byte = ap length rules.delimiter ∙ sound.one_byte;
+      lead = omega arith;
+      front = λ none. absurd (omega arith);
+      begun = λ ahead. omega (arith, sound.begun (omega arith));
+      limit = omega arith;
+    }
+
+-- a step over kept bytes that are no delimiter, towards the next start
+pub skipped : (old new : View) (c i : ℕ) (sight : Sight) → IsSound old → SameRules old new → new.upto ≡ old.upto → new.failed ≡ old.failed
+    → old.lead ≡ 1 → new.lead ≡ 1 → new.delimiter ≡ c ∷ [] → old.delimiter ≡ c ∷ []
+    → new.kept ≡ drop i old.kept → i ≤ length old.kept → HasNone c old.kept i → place old ≤ old.last
+    → Shows sight new → (sight ≡ Start → (0 < length new.kept) × (get_or new.kept 0 0 ≡ c) × (place new ≤ new.last))
+    → Skips old new sight
+skipped old new c i sight sound rules upto failed lead leads delimiter same kept within clear near shown ready =
+    let sound_new : IsSound new = sound_passed old new i sound rules upto leads kept near in
+    let none_more : i ≡ 0 + i = omega arith in
+    let at_none : (k : ℕ) → k ≡ 0 + k = λ k. omega arith in
+    let here : kept_from old + 0 + 1 ≡ place old = omega arith in
+    let holds : (object : List ℕ) → Holds object old → Holds object new =
+        λ object h. holds_passed object old new i sound.kept rules.size upto kept within h in
+    record {
+      sound = sound_new;
+      rules = rules;
+      upto = upto;
+      failed = failed;
+      shown = shown;
+      past = λ done. absurd (omega arith);
+      told = λ object h. (
+        holds object h,
+        left_passed object c old new 0 i sound.kept delimiter rules.last upto leads (kept ∙ ap (λ n. drop n old.kept) none_more) (omega arith)
+        (λ k lt read. clear k lt (ap (λ n. get_or old.kept n 0) (at_none k) ∙ read)) h
+        ∙ ap (λ q. starts_in (c ∷ []) object q old.last) here
+        ∙ ap (λ d. starts_in d object (place old) old.last) (sym same),
+      );
+      ready = λ object h start.
+      let at = ready start in
+      ready_behind object c new delimiter leads at.0 at.1 at.2 (sound_new.begun at.2) (holds object h);
     }

@@ -1,4 +1,5 @@
 pub mod Starts
+pub mod Bytes
 pub mod Sliding
 pub mod Answers
 pub mod Buffered

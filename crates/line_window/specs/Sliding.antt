@@ -49,7 +49,7 @@ pub record IsSound (v : View) : Type 0 where
   pub one_byte : length v.delimiter ≡ 1
   pub lead : v.lead ≤ 1
   pub front : v.lead ≡ 0 → v.upto ≡ length v.kept
-  pub begun : v.lead ≡ 0 → v.last < v.size
+  pub begun : place v ≤ v.last → v.last < v.size
   pub limit : v.longest ≤ 16777216
 
 -- the limit, the delimiter, the object's size and the range's last place stay as they were

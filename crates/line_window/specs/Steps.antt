@@ -7,6 +7,7 @@ use Rattle.line_window.specs.declared.window.Sight.TheVariants.{Start, More, Pas
 use Rattle.line_window.specs.declared.window.Body.{Body}
 use Rattle.line_window.specs.declared.window.Scan.{Scan}
 use Rattle.line_window.specs.declared.window.Scan.TheVariants.{Found, Unended}
+use Rattle.line_window.specs.Bytes.{HasNone}
 use Rattle.line_window.specs.Starts.{starts_in}
 use Rattle.line_window.specs.Sliding.{View, kept_from, place, left, Tells, Holds, IsSound, SameRules, Took}
 
@@ -16,7 +17,7 @@ ahead v = drop v.lead v.kept
 
 -- the delimiter's byte is none of the first n
 abbrev pub IsClear : View → ℕ → Type 0
-IsClear v n = (k : ℕ) → k < n → slice_index (ahead v) k ≢ slice_index v.delimiter 0
+IsClear v n = HasNone (slice_index v.delimiter 0) (ahead v) n
 
 -- a piece was read and is kept too
 pub record Grows (old new : View) : Type 0 where

@@ -1,9 +1,9 @@
 //! Reading an object into a buffer, a piece at a time.
-ghost use Rattle.std.specs.Prelude.{◌≡◌, ℕ, ◌+◌, ◌-◌, ◌<◌, ◌≤◌, List, length, take, drop, IfOk};
+ghost use Rattle.std.specs.Prelude.{◌≡◌, ℕ, ◌+◌, ◌-◌, ◌<◌, ◌≤◌, List, length, take, drop, IfOk, MatchOption};
 ghost use Rattle.select_ports.specs.Causes.{HasCause, Counted};
 ghost use Rattle.select_ports.specs.Stored.{IsOpen};
-ghost use Rattle.memchr.specs.Find.{IsFirstByte, is_byte};
 ghost use Rattle.line_window.specs.Sliding.{Tells};
+ghost use Rattle.line_window.specs.Bytes.{HasNone, IsFirstAt};
 
 use memchr::memchr;
 use select_ports::{Failed, Store};
@@ -59,7 +59,7 @@ pub fn read_piece<S: Store>(
 
 /// The first place of a byte.
 pub fn find(byte: u8, bytes: &[u8]) -> Option<usize>
-    ensures { IsFirstByte (is_byte byte) bytes.now result }
+    ensures { MatchOption result (HasNone byte bytes.now (length bytes.now)) (IsFirstAt byte bytes.now) }
 {
     memchr(byte, bytes)
 }

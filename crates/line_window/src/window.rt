@@ -62,7 +62,7 @@ impl Window {
     ghost use Rattle.std.specs.Io.BufRead.{Rests};
     ghost use Rattle.select_ports.specs.Causes.{HasCause, Rose};
     ghost use Rattle.select_ports.specs.Stored.{IsOpen};
-    ghost use Rattle.line_window.specs.Sliding.{Tells, Holds, Took, IsOpened, IsSought, place, kept_from};
+    ghost use Rattle.line_window.specs.Sliding.{Tells, Holds, IsSound, Took, IsOpened, IsSought, place, kept_from};
     ghost use Rattle.line_window.specs.Answers.{Turns, IsLineAt, IsSomeLine};
     ghost use Rattle.line_window.specs.Steps.{Skips, Passes, Grows, IsClear, IsBody, IsScanned, Measures, Leaves, ahead};
     ghost use Rattle.line_window.specs.contracts.window.Window.{the_row};
@@ -156,21 +156,33 @@ impl Window {
         if self.last <= from {
             return Sight::Past;
         }
-        let until = (self.last - from).min(kept as u64) as usize;
-        match find(self.delimiter, &self.buffer[self.start..self.start + until]) {
-            Some(at) => {
-                self.start += at;
-                Sight::Start
+        let reach = self.last - from;
+        let until = reach.min(kept as u64) as usize;
+        let Some(at) = find(self.delimiter, &self.kept()[..until]) else {
+            self.start += until;
+            if until as u64 == reach {
+                return Sight::Past;
             }
-            None => {
-                self.start += until;
-                if from + until as u64 == self.last {
-                    Sight::Past
-                } else {
-                    Sight::More
-                }
-            }
-        }
+            return Sight::More;
+        };
+        self.start += at;
+        Sight::Start
+    }
+
+    // The bytes that are kept.
+    fn kept(&self) -> &[u8]
+        ensures value { result.now ≡ self.now.kept }
+        ensures sound { IsSound self.now }
+    {
+        &self.buffer[self.start..self.end]
+    }
+
+    // The bytes of the line ahead that are kept.
+    fn ahead(&self) -> &[u8]
+        requires { self.now.lead ≤ length self.now.kept }
+        ensures { result.now ≡ ahead self.now }
+    {
+        &self.kept()[self.lead..]
     }
 
     // Finds the body of the line ahead.
@@ -202,7 +214,7 @@ impl Window {
         requires led { self.now.lead ≤ length self.now.kept }
         ensures { IsScanned self.now result }
     {
-        let ahead = &self.buffer[self.start + self.lead..self.end];
+        let ahead = self.ahead();
         if let Some(more) = find(self.delimiter, &ahead[scanned..]) {
             let len = scanned + more;
             return Scan::Found(Body {
