@@ -2,3 +2,4 @@ pub mod StartLaws
 pub mod ByteLaws
 pub mod WindowLaws
 pub mod ScanLaws
+pub mod LendLaws
