@@ -3,3 +3,4 @@ pub mod ByteLaws
 pub mod WindowLaws
 pub mod ScanLaws
 pub mod LendLaws
+pub mod WayLaws

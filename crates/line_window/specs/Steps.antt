@@ -66,6 +66,15 @@ pub record Passes (opened : Opened) (old new : View) (result : Result Bool Faile
   pub told : (object : List ℕ) → Tells opened object → Holds object old → Holds object new × (left object new ≡ left object old)
   pub ready : (object : List ℕ) → Tells opened object → Holds object old → result ≡ Ok true → IsReady object new
 
+-- on the way to the next start, after some pieces
+pub record Passing (opened : Opened) (old now : View) (before after : ℕ) : Type 0 where
+  pub rules : SameRules old now
+  pub forward : old.upto ≤ now.upto
+  pub taken : Took (now.upto - old.upto) before after
+  pub failed : now.failed ≡ false
+  pub past : old.last < place old → now ≡ old
+  pub told : (object : List ℕ) → Tells opened object → Holds object old → Holds object now × (left object now ≡ left object old)
+
 -- the body of the line ahead: up to the delimiter, or as far as was read, which is the object's end or past the record limit
 pub record IsBody (v : View) (b : Body) : Type 0 where
   pub within : b.len ≤ length (ahead v)
@@ -77,6 +86,15 @@ pub record IsBody (v : View) (b : Body) : Type 0 where
 abbrev pub IsScanned : View → Scan → Type 0
 IsScanned v (Found b) = IsBody v b
 IsScanned v (Unended n) = (n ≡ length (ahead v)) × (n ≤ v.longest) × (v.upto < v.size) × IsClear v n
+
+-- on the way to the end of the line ahead, after some pieces
+pub record Measuring (opened : Opened) (old now : View) (scanned before after : ℕ) : Type 0 where
+  pub grows : Grows old now
+  pub taken : Took (now.upto - old.upto) before after
+  pub failed : now.failed ≡ false
+  pub within : scanned ≤ length (ahead now)
+  pub clear : IsClear now scanned
+  pub told : (object : List ℕ) → Tells opened object → Holds object old → Holds object now
 
 -- the way to the end of the line ahead, reading as far as that needs
 pub record Measures (opened : Opened) (old new : View) (result : Result Body Failed) (before now : ℕ) : Type 0 where

@@ -128,7 +128,7 @@ impl Window {
     // Goes to the next start, and tells whether it is in the range.
     fn pass<S: Store>(&mut self, store: &mut S) -> Result<bool, Failed>
         requires object { IsOpen (S.current store.old) self.old.size }
-        requires sound { self.old.failed ≡ false }
+        requires works { self.old.failed ≡ false }
         ensures window { Passes (S.current store.old) self.old self.new result (S.taken store.old) (S.taken store.new) }
         ensures faults { HasCause (S.faults store.old) (S.faults store.new) result }
         ensures held { S.held store.new ≡ S.held store.old }
@@ -188,7 +188,8 @@ impl Window {
     // Finds the body of the line ahead.
     fn measure<S: Store>(&mut self, store: &mut S) -> Result<Body, Failed>
         requires object { IsOpen (S.current store.old) self.old.size }
-        requires sound { self.old.failed ≡ false }
+        requires sound { IsSound self.old }
+        requires works { self.old.failed ≡ false }
         requires near { place self.old ≤ self.old.last }
         requires led { self.old.lead ≤ length self.old.kept }
         ensures window { Measures (S.current store.old) self.old self.new result (S.taken store.old) (S.taken store.new) }
