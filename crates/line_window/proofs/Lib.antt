@@ -4,3 +4,4 @@ pub mod WindowLaws
 pub mod ScanLaws
 pub mod LendLaws
 pub mod WayLaws
+pub mod TurnLaws

@@ -32,7 +32,7 @@ took_more a b n before mid now sum first second = record {
   ];
 }
 
-same_rules : (a b c : View) → SameRules a b → SameRules b c → SameRules a c
+pub same_rules : (a b c : View) → SameRules a b → SameRules b c → SameRules a c
 same_rules a b c first second = record {
   size = second.size ∙ first.size;
   last = second.last ∙ first.last;
@@ -51,14 +51,14 @@ passing_none opened v n works = record {
 }
 
 -- reading on keeps the place
-grown_place : (old new : View) → length old.kept ≤ old.upto → Grows old new → place new ≡ place old
+pub grown_place : (old new : View) → length old.kept ≤ old.upto → Grows old new → place new ≡ place old
 grown_place old new fits grows =
     let len : length new.kept ≡ length old.kept + length grows.piece = ap length grows.kept ∙ length-append old.kept grows.piece in
     let upto = grows.upto in
     let lead = grows.lead in
     omega arith
 
-grown_left : (object : List ℕ) (old new : View) → length old.kept ≤ old.upto → Grows old new → left object new ≡ left object old
+pub grown_left : (object : List ℕ) (old new : View) → length old.kept ≤ old.upto → Grows old new → left object new ≡ left object old
 grown_left object old new fits grows =
     ap (λ d. starts_in d object (place new) new.last) grows.rules.delimiter
     ∙ ap (λ q. starts_in old.delimiter object q new.last) (grown_place old new fits grows)
