@@ -20,11 +20,15 @@ pub leaves : (old new : View) (c : ℕ) (b : Body) → IsSound old → SameRules
     → old.lead ≤ length old.kept → place old ≤ old.last → IsBody old b → Leaves old new
 leaves old new c b sound rules upto failed lead delimiter same kept led near is_body =
     let len = length-drop old.lead old.kept in
+    let shorter : length new.kept ≡ length old.kept - (old.lead + b.len) = ap length kept ∙ length-drop (old.lead + b.len) old.kept in
+    let one = sound.lead in
+    let fits = sound.kept in
     let within : old.lead + b.len ≤ length old.kept = omega (arith, is_body.within) in
     record {
       sound = sound_passed old new (old.lead + b.len) sound rules upto lead kept near;
       rules = rules;
       upto = upto;
+      onwards = omega arith;
       failed = failed;
       told = λ object h. (
         holds_passed object old new (old.lead + b.len) sound.kept rules.size upto kept within h,

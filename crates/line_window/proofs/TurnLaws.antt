@@ -51,10 +51,13 @@ turn_failed opened old passed new found measured (Ok line) before between after 
 turn_failed opened old passed new found measured (Err e) before between after works passes reached measures failed at_err =
     let forward = passes.forward in
     let upto = measures.grows.upto in
+    let onwards = passes.onwards in
+    let here = grown_place passed new passes.sound.kept measures.grows in
     record {
       sound = measures.grows.sound;
       rules = same_rules old passed new passes.rules measures.grows.rules;
       forward = omega arith;
+      onwards = omega arith;
       taken = took_more (passed.upto - old.upto) (new.upto - passed.upto) _ before between after (omega arith) passes.taken measures.taken;
       failed = measures.failed ∙ failed;
       stays_failed = λ broken. absurd (false≢true (sym works ∙ broken));
@@ -80,10 +83,13 @@ turn_line opened old passed measured new found b result line before between afte
     let near : (old.last < place old → ⊥) → place old ≤ old.last = λ never. omega (arith, never) in
     let rules = same_rules old passed measured passes.rules measures.grows.rules in
     let here = grown_place passed measured passes.sound.kept measures.grows in
+    let first_step = passes.onwards in
+    let last_step = leaves.onwards in
     record {
       sound = leaves.sound;
       rules = same_rules old measured new rules leaves.rules;
       forward = omega arith;
+      onwards = omega arith;
       taken = took_more (passed.upto - old.upto) (measured.upto - passed.upto) _ before between after (omega arith) passes.taken measures.taken;
       failed = leaves.failed ∙ measures.failed ∙ ap is_err ok;
       stays_failed = λ broken. absurd (false≢true (sym works ∙ broken));

@@ -243,6 +243,7 @@ pub skipped : (old new : View) (c i : ℕ) (sight : Sight) → IsSound old → S
     → Skips old new sight
 skipped old new c i sight sound rules upto failed lead leads delimiter same kept within clear near shown ready =
     let sound_new : IsSound new = sound_passed old new i sound rules upto leads kept near in
+    let shorter : length new.kept ≡ length old.kept - i = ap length kept ∙ length-drop i old.kept in
     let none_more : i ≡ 0 + i = omega arith in
     let at_none : (k : ℕ) → k ≡ 0 + k = λ k. omega arith in
     let here : kept_from old + 0 + 1 ≡ place old = omega arith in
@@ -252,6 +253,7 @@ skipped old new c i sight sound rules upto failed lead leads delimiter same kept
       sound = sound_new;
       rules = rules;
       upto = upto;
+      onwards = omega arith;
       failed = failed;
       shown = shown;
       past = λ done. absurd (omega arith);

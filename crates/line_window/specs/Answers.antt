@@ -54,6 +54,7 @@ pub record Turns (opened : Opened) (old new : View) (result : Result Line Failed
   pub sound : IsSound new
   pub rules : SameRules old new
   pub forward : old.upto ≤ new.upto
+  pub onwards : place old ≤ place new
   pub taken : Took (new.upto - old.upto) before now
   pub failed : new.failed ≡ is_err result
   pub stays_failed : old.failed ≡ true → IsErr result × (new ≡ old)

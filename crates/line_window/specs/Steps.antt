@@ -43,6 +43,7 @@ pub record Skips (old new : View) (sight : Sight) : Type 0 where
   pub sound : IsSound new
   pub rules : SameRules old new
   pub upto : new.upto ≡ old.upto
+  pub onwards : place old ≤ place new
   pub failed : new.failed ≡ old.failed
   pub shown : Shows sight new
   pub past : old.last < place old → (sight ≡ Past) × (new ≡ old)
@@ -59,6 +60,7 @@ pub record Passes (opened : Opened) (old new : View) (result : Result Bool Faile
   pub sound : IsSound new
   pub rules : SameRules old new
   pub forward : old.upto ≤ new.upto
+  pub onwards : place old ≤ place new
   pub taken : Took (new.upto - old.upto) before now
   pub failed : new.failed ≡ is_err result
   pub shown : IfOk result (λ found. Reaches found new)
@@ -70,6 +72,7 @@ pub record Passes (opened : Opened) (old new : View) (result : Result Bool Faile
 pub record Passing (opened : Opened) (old now : View) (before after : ℕ) : Type 0 where
   pub rules : SameRules old now
   pub forward : old.upto ≤ now.upto
+  pub onwards : place old ≤ place now
   pub taken : Took (now.upto - old.upto) before after
   pub failed : now.failed ≡ false
   pub past : old.last < place old → now ≡ old
@@ -109,5 +112,6 @@ pub record Leaves (old new : View) : Type 0 where
   pub sound : IsSound new
   pub rules : SameRules old new
   pub upto : new.upto ≡ old.upto
+  pub onwards : place old ≤ place new
   pub failed : new.failed ≡ old.failed
   pub told : (object : List ℕ) → Holds object old → Holds object new × (left object new ≡ starts_in old.delimiter object (place old + 1) old.last)

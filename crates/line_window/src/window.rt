@@ -118,7 +118,7 @@ impl Window {
         if self.failed {
             return Err(Failed);
         }
-        if !self.pass(store)? {
+        if !self.reach(store)? {
             return Ok(Line::End);
         }
         let body = self.measure(store)?;
@@ -126,7 +126,7 @@ impl Window {
     }
 
     // Goes to the next start, and tells whether it is in the range.
-    fn pass<S: Store>(&mut self, store: &mut S) -> Result<bool, Failed>
+    fn reach<S: Store>(&mut self, store: &mut S) -> Result<bool, Failed>
         requires object { IsOpen (S.current store.old) self.old.size }
         requires works { self.old.failed ≡ false }
         ensures window { Passes (S.current store.old) self.old self.new result (S.taken store.old) (S.taken store.new) }
@@ -158,7 +158,7 @@ impl Window {
         }
         let reach = self.last - from;
         let until = reach.min(kept as u64) as usize;
-        let Some(at) = find(self.delimiter, &self.kept()[..until]) else {
+        let Some(at) = find(self.delimiter, &self.kept_bytes()[..until]) else {
             self.start += until;
             if until as u64 == reach {
                 return Sight::Past;
@@ -170,7 +170,7 @@ impl Window {
     }
 
     // The bytes that are kept.
-    fn kept(&self) -> &[u8]
+    fn kept_bytes(&self) -> &[u8]
         ensures value { result.now ≡ self.now.kept }
         ensures sound { IsSound self.now }
     {
@@ -178,11 +178,11 @@ impl Window {
     }
 
     // The bytes of the line ahead that are kept.
-    fn ahead(&self) -> &[u8]
+    fn line_bytes(&self) -> &[u8]
         requires { self.now.lead ≤ length self.now.kept }
         ensures { result.now ≡ ahead self.now }
     {
-        &self.kept()[self.lead..]
+        &self.kept_bytes()[self.lead..]
     }
 
     // Finds the body of the line ahead.
@@ -215,7 +215,7 @@ impl Window {
         requires led { self.now.lead ≤ length self.now.kept }
         ensures { IsScanned self.now result }
     {
-        let ahead = self.ahead();
+        let ahead = self.line_bytes();
         if let Some(more) = find(self.delimiter, &ahead[scanned..]) {
             let len = scanned + more;
             return Scan::Found(Body {

@@ -12,12 +12,12 @@ returns c =
     let w = c.self.inside in
     let at = c.in-Some.at in
     let n = c.min-until.result in
-    let shown = c.kept.ensures.value ∙ ap (λ (v : View). v.kept) (sym c.self.view_is) in
+    let shown = c.kept_bytes.ensures.value ∙ ap (λ (v : View). v.kept) (sym c.self.view_is) in
     let sound = c.self.invariant.sound in
     let low : w.lead ≤ 1 = sound.lead in
     let some : w.lead ≡ 0 → ⊥ = c.if-self-eq0.false in
     let lead : w.lead ≡ 1 = omega arith in
-    let first = front_found w.delimiter n at (view_of w).kept c.kept.result.now shown c.in-Some.ensures in
+    let first = front_found w.delimiter n at (view_of w).kept c.kept_bytes.result.now shown c.in-Some.ensures in
     let within = first.1 in
     let len = kept_len w.buffer.items w.start w.end (omega arith) (omega arith) in
     let rest = kept_len w.buffer.items (w.start + at) w.end (omega arith) (omega arith) in
@@ -37,7 +37,7 @@ pub returns-then-until-reach : goal.returns-then-until-reach
 returns-then-until-reach c =
     let w = c.self.inside in
     let n = c.min-until.result in
-    let shown = c.kept.ensures.value ∙ ap (λ (v : View). v.kept) (sym c.self.view_is) in
+    let shown = c.kept_bytes.ensures.value ∙ ap (λ (v : View). v.kept) (sym c.self.view_is) in
     let sound = c.self.invariant.sound in
     let low : w.lead ≤ 1 = sound.lead in
     let some : w.lead ≡ 0 → ⊥ = c.if-self-eq0.false in
@@ -47,14 +47,14 @@ returns-then-until-reach c =
     rw (← c.self.view_is)
     (skipped (view_of w) _ w.delimiter n Past sound (record { size = refl; last = refl; longest = refl; delimiter = refl })
     refl refl lead lead refl refl (kept_after w.buffer.items w.start w.end n (omega arith)) (omega arith)
-    (front_none w.delimiter n (view_of w).kept c.kept.result.now shown (omega arith) c.in_default.ensures) (omega arith) (omega arith)
+    (front_none w.delimiter n (view_of w).kept c.kept_bytes.result.now shown (omega arith) c.in_default.ensures) (omega arith) (omega arith)
     (λ e. absurd (cc)))
 
 pub returns-in_default : goal.returns-in_default
 returns-in_default c =
     let w = c.self.inside in
     let n = c.min-until.result in
-    let shown = c.kept.ensures.value ∙ ap (λ (v : View). v.kept) (sym c.self.view_is) in
+    let shown = c.kept_bytes.ensures.value ∙ ap (λ (v : View). v.kept) (sym c.self.view_is) in
     let sound = c.self.invariant.sound in
     let low : w.lead ≤ 1 = sound.lead in
     let some : w.lead ≡ 0 → ⊥ = c.if-self-eq0.false in
@@ -64,6 +64,6 @@ returns-in_default c =
     rw (← c.self.view_is)
     (skipped (view_of w) _ w.delimiter n More sound (record { size = refl; last = refl; longest = refl; delimiter = refl })
     refl refl lead lead refl refl (kept_after w.buffer.items w.start w.end n (omega arith)) (omega arith)
-    (front_none w.delimiter n (view_of w).kept c.kept.result.now shown (omega arith) c.in_default.ensures) (omega arith)
+    (front_none w.delimiter n (view_of w).kept c.kept_bytes.result.now shown (omega arith) c.in_default.ensures) (omega arith)
     (nil_from_length _ (omega arith), omega arith)
     (λ e. absurd (cc)))

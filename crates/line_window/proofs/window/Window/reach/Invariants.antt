@@ -1,6 +1,6 @@
 use Rattle.std.proofs.Common.{◌≡◌, ◌-◌, ◌≤◌}
 use Rattle.line_window.specs.Steps.{Passing}
-use Rattle.line_window.proofs.window.Window.pass.Given as goal
+use Rattle.line_window.proofs.window.Window.reach.Given as goal
 
 abbrev pub invariant-pieces : goal.invariant-pieces
 invariant-pieces g l = record {
