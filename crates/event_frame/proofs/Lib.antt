@@ -1,0 +1,5 @@
+pub mod Blocks
+pub mod CrcVectors
+pub mod Division
+pub mod Entries
+pub mod RegisterLaws

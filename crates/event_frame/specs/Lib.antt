@@ -1,0 +1,5 @@
+pub mod CountsText
+pub mod Crc
+pub mod Event
+pub mod Message
+pub mod Register

@@ -1,0 +1,14 @@
+//! An event of a select reply and the bytes of its frame stand for one another, both ways.
+#![tactic(auto)]
+
+mod counts;
+mod crc;
+mod message;
+mod products;
+#[cfg(test)]
+mod tests;
+mod writer;
+
+pub use counts::Counts;
+pub use crc::crc32;
+pub use writer::FrameWriter;

@@ -1,0 +1,84 @@
+// The expected frames were made by Python's `zlib` and `struct`, and read back by botocore.
+
+ghost use Rattle.std.specs.Prelude.{◌≡◌, Some};
+
+use crate::{Counts, FrameWriter, crc32};
+use select_ports::{Failed, FrameSink};
+use std::alloc::Global;
+use std::test::Fail;
+
+// A sink that keeps what it is given.
+#[derive(Drop)]
+struct Kept {
+    bytes: Vec<u8>,
+    faults: u64,
+}
+
+impl FrameSink for Kept {
+    ghost written = { λ s. Some s.bytes.items };
+
+    ghost faults = { λ s. s.faults };
+
+    ghost wrap = { λ bytes. bytes };
+
+    ghost Rest = { Unit {0} };
+
+    ghost rest = { λ _. tt };
+
+    fn frame(&mut self, bytes: &[u8]) -> Result<(), Failed> {
+        if self.bytes.extend_from_slice(bytes).is_err() {
+            self.faults = self.faults.saturating_add(1);
+            return Err(Failed);
+        }
+        Ok(())
+    }
+}
+
+fn empty_sink(alloc: Global) -> Kept {
+    Kept {
+        bytes: Vec::new(alloc),
+        faults: 0,
+    }
+}
+
+#[test]
+fn the_check_value(rt: HostRuntime) {
+    assert_eq!(rt; crc32(b"123456789"), 0xcbf43926);
+}
+
+#[test]
+fn the_frames_of_replies(rt: HostRuntime) -> Result<(), Fail> {
+    let mut out = empty_sink(rt.alloc());
+    let mut writer = FrameWriter::make(rt.alloc())?;
+    writer.records(&mut out, b"Ann\nBo\n")?;
+    writer.stats(
+        &mut out,
+        &Counts {
+            scanned: 11,
+            processed: 11,
+            returned: 7,
+        },
+    )?;
+    writer.end(&mut out)?;
+    writer.error(&mut out, "CastFailed", "CastFailed at byte 2")?;
+    let (records, rest) = out.bytes.as_slice().split_at_checked(108).ok_or("records")?;
+    let (stats, rest) = rest.split_at_checked(234).ok_or("stats")?;
+    let (end, error) = rest.split_at_checked(56).ok_or("end")?;
+    assert_eq!(rt; records, RECORDS);
+    assert_eq!(rt; stats, STATS);
+    assert_eq!(rt; end, END);
+    assert_eq!(rt; error, ERROR);
+    Ok(())
+}
+
+const RECORDS: &[u8] =
+    b"\x00\x00\x00l\x00\x00\x00U\"\xe1\xe0^\x0d:message-type\x07\x00\x05event\x0b:event-type\x07\x00\x07Records\x0d:content-type\x07\x00\x18application/octet-streamAnn\nBo\n^\x84}\xe8";
+
+const STATS: &[u8] =
+    b"\x00\x00\x00\xea\x00\x00\x00C\xe8\x93\x10=\x0d:message-type\x07\x00\x05event\x0b:event-type\x07\x00\x05Stats\x0d:content-type\x07\x00\x08text/xml<?xml version=\"1.0\" encoding=\"UTF-8\"?><Stats><BytesScanned>11</BytesScanned><BytesProcessed>11</BytesProcessed><BytesReturned>7</BytesReturned></Stats>v#\x81]";
+
+const END: &[u8] =
+    b"\x00\x00\x008\x00\x00\x00(\xc1\xc6\x84\xd4\x0d:message-type\x07\x00\x05event\x0b:event-type\x07\x00\x03End\xcf\x97\xd3\x92";
+
+const ERROR: &[u8] =
+    b"\x00\x00\x00e\x00\x00\x00U/\xf1\x82/\x0d:message-type\x07\x00\x05error\x0b:error-code\x07\x00\nCastFailed\x0e:error-message\x07\x00\x14CastFailed at byte 2\x8bV\x83\xf6";

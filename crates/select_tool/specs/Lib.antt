@@ -1,0 +1,9 @@
+pub mod Codes
+pub mod Pieces
+pub mod Records
+pub mod Answer
+pub mod Prepared
+pub mod Words
+pub mod Statuses
+pub mod Input
+pub mod Events
