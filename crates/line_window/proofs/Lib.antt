@@ -1,1 +1,7 @@
 pub mod StartLaws
+pub mod ByteLaws
+pub mod WindowLaws
+pub mod ScanLaws
+pub mod LendLaws
+pub mod WayLaws
+pub mod TurnLaws

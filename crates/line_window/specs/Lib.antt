@@ -1,1 +1,6 @@
 pub mod Starts
+pub mod Bytes
+pub mod Sliding
+pub mod Answers
+pub mod Buffered
+pub mod Steps
