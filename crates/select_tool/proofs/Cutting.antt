@@ -122,3 +122,11 @@ ends_with_pending pending bytes left done is short =
       ∙ append-nil (whole_pieces (pending ++ take done bytes))
     , ap remainder joined ∙ remainder-append (pending ++ take done bytes) (drop done bytes)
       ∙ ap (λ l. remainder (l ++ drop done bytes)) (sym is) ∙ remainder-short (left ++ drop done bytes) few )
+
+-- two parts of an output, one after the other
+pub two_parts : (pending first second : List ℕ)
+    → (whole_pieces (pending ++ (first ++ second)) ≡ whole_pieces (pending ++ first) ++ whole_pieces (remainder (pending ++ first) ++ second))
+    × (remainder (pending ++ (first ++ second)) ≡ remainder (remainder (pending ++ first) ++ second))
+two_parts pending first second =
+    let joined : pending ++ (first ++ second) ≡ (pending ++ first) ++ second = sym (append_assoc pending first second) in
+    (ap whole_pieces joined ∙ whole_pieces-append (pending ++ first) second, ap remainder joined ∙ remainder-append (pending ++ first) second)

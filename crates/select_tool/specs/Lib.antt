@@ -8,3 +8,4 @@ pub mod Statuses
 pub mod Input
 pub mod Begun
 pub mod Events
+pub mod LineAnswers
