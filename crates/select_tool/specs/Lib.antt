@@ -9,3 +9,5 @@ pub mod Input
 pub mod Begun
 pub mod Events
 pub mod LineAnswers
+pub mod Jobs
+pub mod Streaming

@@ -4,6 +4,7 @@
 mod code;
 mod content;
 mod input;
+mod job;
 mod outcome;
 mod reply;
 mod trouble;
