@@ -68,10 +68,10 @@ impl<'a, R: Files> Model for FileStore<'a, R> {
     ghost Value = { FileState };
 
     ghost view = { λ s. record {
-        current = option_map (λ file. (file.size, None)) s.opened;
-        faults = s.faults;
-        taken = s.taken;
-        absent = s.absent
+      current = option_map (λ file. (file.size, None)) s.opened;
+      faults = s.faults;
+      taken = s.taken;
+      absent = s.absent;
     } };
 }
 

@@ -169,12 +169,20 @@ fn reads_and_writes_by_std(rt: HostRuntime) -> Result<(), Fail> {
         let outcome = source.read(&mut buf).map(Some);
         assert_eq!(rt; shown(outcome, &buf), want.as_bytes());
     }
-    assert_eq!(rt; StdSource::new(Interrupted { times: 2 }).read(&mut buf), Ok(0));
+    assert_eq!(rt;
+        StdSource::new(Interrupted { times: 2 }).read(&mut buf),
+        Ok(0)
+    );
 
     let mut room = [0u8; 3];
     {
         let mut sink = StdSink::new(room.as_mut_slice());
-        for (piece, want) in [("ab", Ok(2)), ("", Ok(0)), ("cd", Ok(1)), ("d", Err(Failed))] {
+        for (piece, want) in [
+            ("ab", Ok(2)),
+            ("", Ok(0)),
+            ("cd", Ok(1)),
+            ("d", Err(Failed)),
+        ] {
             assert_eq!(rt; sink.write(piece.as_bytes()), want);
         }
     }
