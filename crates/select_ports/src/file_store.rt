@@ -9,10 +9,11 @@ ghost use Rattle.select_ports.specs.Stored.{IsWithin, Opens, CountsMissing, Read
 use crate::count::fault;
 use crate::retry::read_once;
 use crate::{Failed, Found, Store, is_plain_name};
-use std::alloc::{AllocError, Global};
+use std::alloc::Global;
 use std::fs::OpenFile;
 use std::io::{ErrorKind, Read, Seek, SeekFrom};
 use std::marker::Model;
+use std::path::Path;
 use std::rt::Files;
 use std::{fs, io};
 
@@ -67,15 +68,15 @@ impl<'a, R: Files> Model for FileStore<'a, R> {
     ghost Value = { FileState };
 
     ghost view = { λ s. record {
-        current = option_map (λ file. (file.size, None)) s.opened;
-        faults = s.faults;
-        taken = s.taken;
-        absent = s.absent
+      current = option_map (λ file. (file.size, None)) s.opened;
+      faults = s.faults;
+      taken = s.taken;
+      absent = s.absent;
     } };
 }
 
 impl<'a, R: Files> FileStore<'a, R> {
-    /// A store over the folder, of which nothing is open. The allocator serves the path of each name that is opened.
+    /// A store over the folder, of which nothing is open. An empty text stands for the working folder. The allocator serves the path of each name that is opened.
     pub fn new(rt: &'a R, alloc: Global, folder: &'a str) -> FileStore<'a, R>
         ensures current { result.current ≡ None }
         ensures faults { result.faults ≡ 0 }
@@ -95,24 +96,16 @@ impl<'a, R: Files> FileStore<'a, R> {
 
     /// The file of the name, or nothing where none has it.
     fn find(&self, name: &str) -> io::Result<Option<OpenedFile<R::File>>> {
-        let path = join(self.alloc, self.folder, name)?;
-        match open_file(self.rt, path.as_str()) {
+        let path = Path::new(self.folder).join(self.alloc, name)?;
+        match open_file(self.rt, path.as_path()) {
             Err(error) if is_absence(&error) => Ok(None),
             result => result,
         }
     }
 }
 
-/// The path of a name in a folder.
-fn join(alloc: Global, folder: &str, name: &str) -> Result<String, AllocError> {
-    let mut path = String::from_str(alloc, folder)?;
-    path.push('/')?;
-    path.push_str(name)?;
-    Ok(path)
-}
-
 /// The file at the path, or nothing where something else is there.
-fn open_file<R: Files>(rt: &R, path: &str) -> io::Result<Option<OpenedFile<R::File>>> {
+fn open_file<R: Files>(rt: &R, path: Path<'_>) -> io::Result<Option<OpenedFile<R::File>>> {
     if !fs::metadata(rt, path)?.is_file() {
         return Ok(None);
     }

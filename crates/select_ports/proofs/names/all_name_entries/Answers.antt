@@ -1,4 +1,4 @@
-use Rattle.std.proofs.Common.{rules, ◌≡◌, ◌&&◌, Bool, true, List, ℕ, Some, None, lit<, sym, ap, ◌∙◌}
+use Rattle.std.proofs.Common.{rules, ◌≡◌, ◌&&◌, true, Some, None, lit<, sym, ap, ◌∙◌}
 use Rattle.std.proofs.lemmas.Str.Pattern.{split_parts}
 use Rattle.std.specs.List.{list_all}
 use Rattle.select_ports.specs.Names.{names_entry, segments_of}
@@ -11,7 +11,7 @@ loop-segment-preserved c =
     let entry : names_entry c.in-Some.segment.now ≡ true = sym c.is_entry_name.ensures ∙ c.if-not-is_entry_name.false in (
       search rules,
       sym (judged_cut c.loop-segment.rest.now c.in-Some.segment.now c.in-Some.behind.now parts.0 parts.1
-      ∙ ap (λ b. b && list_all names_entry (segments_of c.in-Some.behind.now)) entry) ∙ c.loop-segment.invariant.1,
+          ∙ ap (λ b. b && list_all names_entry (segments_of c.in-Some.behind.now)) entry) ∙ c.loop-segment.invariant.1,
     )
 
 pub returns : goal.returns
