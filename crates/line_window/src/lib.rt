@@ -4,6 +4,8 @@
 mod buffer;
 mod laws;
 mod line;
+#[cfg(test)]
+mod tests;
 mod window;
 
 pub use laws::{adjacent_ranges_append, near_bytes_tell};
