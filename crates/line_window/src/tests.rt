@@ -22,7 +22,11 @@ fn store_of(alloc: Global, object: &[u8], length: usize, failing: u64) -> Result
 /// Adds `START+WHOLE=BYTES` for a line, and `START!` for one that is too long.
 fn show(line: &Line<'_>, text: &mut String) -> Result<(), Fail> {
     match line {
-        Line::At { start, bytes, whole } => {
+        Line::At {
+            start,
+            bytes,
+            whole,
+        } => {
             write!(text, "{start}+{whole}=")?;
             for byte in *bytes {
                 text.push(char::from(*byte))?;
@@ -36,7 +40,12 @@ fn show(line: &Line<'_>, text: &mut String) -> Result<(), Fail> {
 }
 
 /// The next answers, up to the end or a failure, of which there are so many at most.
-fn answers<S: Store>(window: &mut Window, store: &mut S, most: usize, text: &mut String) -> Result<(), Fail>
+fn answers<S: Store>(
+    window: &mut Window,
+    store: &mut S,
+    most: usize,
+    text: &mut String,
+) -> Result<(), Fail>
     requires { IsOpen (S.current store.old) window.old.size }
     ensures current { S.current store.new ≡ S.current store.old }
     ensures size { window.new.size ≡ window.old.size }
@@ -51,7 +60,14 @@ fn answers<S: Store>(window: &mut Window, store: &mut S, most: usize, text: &mut
 }
 
 /// The lines of a range of an object, at a record limit.
-fn lines(alloc: Global, object: &[u8], longest: usize, first: u64, last: u64, length: usize) -> Result<String, Fail>
+fn lines(
+    alloc: Global,
+    object: &[u8],
+    longest: usize,
+    first: u64,
+    last: u64,
+    length: usize,
+) -> Result<String, Fail>
     requires some { 0 < length }
     requires limit { longest ≤ 16777216 }
 {
@@ -94,7 +110,9 @@ fn a_failed_window_fails_until_it_is_sought_again(rt: HostRuntime) -> Result<(),
     let mut text = String::new(rt.alloc());
     let mut store = store_of(rt.alloc(), b"ab\ncd\n", 4, 3)?;
     let mut window = Window::open(rt.alloc(), Limits { longest: 9 }, b"\n")?;
-    if let Ok(Found::Size(size)) = store.open("o") && size == 6 {
+    if let Ok(Found::Size(size)) = store.open("o")
+        && size == 6
+    {
         let range = Range { first: 0, last: 5 };
         window.seek(&mut store, size, range)?;
         answers(&mut window, &mut store, 3, &mut text)?;
