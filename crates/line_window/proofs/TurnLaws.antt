@@ -32,10 +32,10 @@ next_line object old new longest delimiter p (TooLong start) some is_line same_l
 next_line object old new longest delimiter p End some is_line same_limit same_delimiter first = absurd some
 
 -- a line that is there ends nothing
-not_ended : (old new : View) (line : Line) → IsSomeLine line → place old ≤ old.last → Ends old new (Ok line)
-not_ended old new (At start bytes whole) some near = near
-not_ended old new (TooLong start) some near = near
-not_ended old new End some near = absurd some
+not_ended : (old new : View) (line : Line) → IsSomeLine line → place old ≤ old.last → place old < place new → Ends old new (Ok line)
+not_ended old new (At start bytes whole) some near onwards = (near, onwards)
+not_ended old new (TooLong start) some near onwards = (near, onwards)
+not_ended old new End some near onwards = absurd some
 
 -- at the end of the range no start is reached
 not_done : (opened : Opened) (old passed : View) (found : Result Bool Failed) (before now : ℕ) → Passes opened old passed found before now
@@ -93,7 +93,7 @@ turn_line opened old passed measured new found b result line before between afte
       taken = took_more (passed.upto - old.upto) (measured.upto - passed.upto) _ before between after (omega arith) passes.taken measures.taken;
       failed = leaves.failed ∙ measures.failed ∙ ap is_err ok;
       stays_failed = λ broken. absurd (false≢true (sym works ∙ broken));
-      ends = not_ended old new line some (near (not_done opened old passed found before between passes reached));
+      ends = not_ended old new line some (near (not_done opened old passed found before between passes reached)) (omega arith);
       stays_done = λ done fine. absurd (not_done opened old passed found before between passes reached done);
       told = λ object tells h.
           let at = passes.told object tells h in

@@ -42,10 +42,10 @@ IsNext object old new (Err failed) = left object new ≡ left object old
 abbrev pub IsDone : View → Type 0
 IsDone v = v.last < place v
 
--- `End` comes at the end of the range, and stays
+-- a line moves the window's place on; `End` comes at the end of the range, and stays
 abbrev pub Ends : View → View → Result Line Failed → Type 0
-Ends old new (Ok (At start bytes whole)) = place old ≤ old.last
-Ends old new (Ok (TooLong start)) = place old ≤ old.last
+Ends old new (Ok (At start bytes whole)) = (place old ≤ old.last) × (place old < place new)
+Ends old new (Ok (TooLong start)) = (place old ≤ old.last) × (place old < place new)
 Ends old new (Ok End) = IsDone new
 Ends old new (Err failed) = new.failed ≡ true
 

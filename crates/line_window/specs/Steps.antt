@@ -112,6 +112,6 @@ pub record Leaves (old new : View) : Type 0 where
   pub sound : IsSound new
   pub rules : SameRules old new
   pub upto : new.upto ≡ old.upto
-  pub onwards : place old ≤ place new
+  pub onwards : place old < place new
   pub failed : new.failed ≡ old.failed
   pub told : (object : List ℕ) → Holds object old → Holds object new × (left object new ≡ starts_in old.delimiter object (place old + 1) old.last)

@@ -1,9 +1,9 @@
 -- What the calls of a sink, one after another, add to the bytes that are told.
-use Rattle.std.proofs.Common.{◌≡◌, ℕ, zero, suc, ◌+◌, ◌-◌, ◌<◌, ◌≤◌, List, ◌++◌, Option, None, Some, length, take, drop, refl, sym, ap, ◌∙◌, subst, arith, take-append-drop}
+use Rattle.std.proofs.Common.{◌≡◌, ℕ, zero, suc, ◌+◌, ◌-◌, ◌<◌, ◌≤◌, List, ◌++◌, Option, None, Some, length, take, drop, refl, sym, ap, ◌∙◌, subst, arith, take-append-drop, append_assoc, []}
 use Rattle.std.proofs.lemmas.List.{take-take, drop-drop}
 use Rattle.std.proofs.Math.Seq.{take-add}
 use Rattle.std.specs.Io.KnownBytes.{Appends, Keeps}
-use Rattle.std.proofs.KnownBytes.{Appends-trans}
+use Rattle.std.proofs.KnownBytes.{Appends-trans, Appends-nil}
 use Rattle.select_ports.specs.Streams.{IsFront, AppendsFront}
 
 pub take-piece : (bytes : List ℕ) (done n : ℕ) → n ≤ length bytes - done
@@ -44,3 +44,27 @@ read-piece bytes lent got left at n same here within copied =
 pub none-left : (n m : ℕ) → (0 < m → 0 < n) → n ≡ 0 → m ≡ 0
 none-left n zero some none = refl
 none-left n (suc m) some none = absurd (omega (arith, some (omega arith)))
+
+front-joined : (first whole front : List ℕ) (more : List ℕ) → IsFront front whole → IsFront (first ++ front) (first ++ (whole ++ more))
+front-joined first whole front more is = record {
+  rest = is.rest ++ more;
+  joined = ap (λ l. first ++ (l ++ more)) is.joined ∙ ap (λ l. first ++ l) (append_assoc front is.rest more)
+    ∙ sym (append_assoc first front (is.rest ++ more));
+}
+
+-- a front of a second part was added after the whole of a first
+pub appends-front-after : (a b c : Option (List ℕ)) (first second more : List ℕ) → Appends a b first → AppendsFront b c second
+    → AppendsFront a c (first ++ (second ++ more))
+appends-front-after a b c first second more added front = record {
+  front = first ++ front.front;
+  is_front = front-joined first second front.front more front.is_front;
+  appended = Appends-trans a b c first front.front added front.appended;
+}
+
+-- nothing is a front of anything
+pub appends-front-none : (a b : Option (List ℕ)) (bytes : List ℕ) → Keeps a b → AppendsFront a b bytes
+appends-front-none a b bytes kept = record {
+  front = [];
+  is_front = record { rest = bytes; joined = refl };
+  appended = appends-kept a a b [] (Appends-nil a) kept;
+}

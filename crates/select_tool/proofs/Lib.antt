@@ -1,3 +1,4 @@
 pub mod Contents
 pub mod Cutting
 pub mod Filling
+pub mod Framing

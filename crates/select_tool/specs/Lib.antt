@@ -6,4 +6,6 @@ pub mod Prepared
 pub mod Words
 pub mod Statuses
 pub mod Input
+pub mod Begun
 pub mod Events
+pub mod LineAnswers

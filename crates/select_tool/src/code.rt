@@ -1,6 +1,9 @@
 //! The codes of the replies.
-ghost use Rattle.std.specs.Prelude.{◌≡◌};
-ghost use Rattle.select_tool.specs.Codes.{code_text};
+ghost use Rattle.std.specs.Prelude.{◌≡◌, ◌≤◌, length};
+ghost use Rattle.select_tool.specs.Codes.{code_text, message};
+
+use arrayvec::ArrayString;
+use itoa::Buffer;
 
 /// Why a request is refused or a record is faulty. The reply names it by the variant's name.
 #[derive(Clone, Copy, Debug, PartialEq, Eq)]
@@ -20,7 +23,8 @@ pub enum Code {
 impl Code {
     /// The code as the reply writes it.
     pub fn text(&self) -> &'static str
-        ensures { result.now ≡ code_text self.now }
+        ensures text { result.now ≡ code_text self.now }
+        ensures short { length result.now ≤ 19 }
     {
         match self {
             Code::MalformedXML => "MalformedXML",
@@ -30,4 +34,16 @@ impl Code {
             Code::TooManyFields => "TooManyFields",
         }
     }
+}
+
+/// The message that tells a code and its place.
+pub(crate) fn message(code: Code, at: u64) -> ArrayString<64>
+    ensures { result.bytes ≡ message code at }
+{
+    let mut digits = Buffer::new();
+    let mut message = ArrayString::new();
+    message.push_str(code.text());
+    message.push_str(" at byte ");
+    message.push_str(digits.format(at));
+    message
 }

@@ -4,6 +4,8 @@
 mod code;
 mod content;
 mod input;
+mod outcome;
+mod reply;
 mod trouble;
 mod words;
 
