@@ -1,7 +1,7 @@
 -- Starts and bodies where the delimiter is one byte: a line starts behind each such byte, and a body ends at the first.
-use Rattle.std.proofs.Common.{◌≡◌, ◌≢◌, ℕ, zero, suc, ◌+◌, ◌-◌, ◌<◌, ◌≤◌, min, Bool, true, false, ◌&&◌, ◌||◌, ◌==◌, List, [], ◌∷◌, ◌++◌, length, take, drop, get_or, refl, sym, ap, ◌∙◌, subst, inl, inr, arith, length-take, length-drop}
-use Rattle.std.proofs.lemmas.List.{drop_more, take_all, drop_all, get_or-take, get_or-drop}
-use Rattle.std.proofs.lemmas.Bool.{cases_lt, lt-ltb, le-ltb, le-leb, lt-leb, eq-eqb, ne_eqb, and_left, and_from, or_right}
+use Rattle.std.proofs.Common.{◌≡◌, ◌≢◌, ℕ, zero, suc, ◌+◌, ◌-◌, ◌<◌, ◌≤◌, Bool, true, false, ◌&&◌, ◌||◌, List, [], ◌∷◌, ◌++◌, length, take, drop, get_or, refl, sym, ap, ◌∙◌, subst, inl, inr, arith}
+use Rattle.std.proofs.lemmas.List.{drop_more}
+use Rattle.std.proofs.lemmas.Bool.{cases_lt, lt-ltb, le-ltb, le-leb, eq-eqb, ne_eqb, and_left, and_from, or_right}
 use Rattle.std.specs.Prelude.{bytes_eq, nat_lt, nat_le, nat_eq, if◌then◌else◌}
 use Rattle.line_window.specs.Starts.{ends_at, is_start, starts, starts_in, before_delimiter}
 use Rattle.line_window.proofs.StartLaws.{starts-append}
@@ -19,7 +19,7 @@ ends_behind c object p b in_object e =
     let low : nat_le 1 (suc p) ≡ true = le-leb 1 (suc p) (omega arith) in
     let here : drop p object ≡ get_or object p 0 ∷ drop (p + 1) object = drop_more object p 0 in_object in
     let read : bytes_eq (take 1 (drop (suc p - 1) object)) (c ∷ []) ≡ b =
-        rw (back, here) (test_one c (get_or object p 0) (drop (p + 1) object) b e) in
+    rw (back, here) (test_one c (get_or object p 0) (drop (p + 1) object) b e) in
     ap (λ t. t && bytes_eq (take 1 (drop (suc p - 1) object)) (c ∷ [])) low ∙ read
 
 pub no_start_behind : (c : ℕ) (object : List ℕ) (p : ℕ) → get_or object p 0 ≢ c → is_start (c ∷ []) object (suc p) ≡ false
@@ -27,12 +27,12 @@ no_start_behind c object p other =
     elim (cases_lt (suc p) (length object)) [
       | inr past ↦ and_left _ _ (le-ltb (suc p) (length object) past)
       | inl within ↦
-        let some : nat_eq (suc p) 0 ≡ false = ne_eqb (suc p) 0 (λ e. omega arith) in
-        let ends : ends_at (c ∷ []) object (suc p) ≡ false =
-            ends_behind c object p false (omega arith) (ne_eqb (get_or object p 0) c other) in
-        ap (λ t. nat_lt (suc p) (length object) && (t || ends_at (c ∷ []) object (suc p))) some
-        ∙ ap (λ t. nat_lt (suc p) (length object) && t) ends
-        ∙ ap (λ t. t && false) (lt-ltb (suc p) (length object) within)
+          let some : nat_eq (suc p) 0 ≡ false = ne_eqb (suc p) 0 (λ e. omega arith) in
+          let ends : ends_at (c ∷ []) object (suc p) ≡ false =
+          ends_behind c object p false (omega arith) (ne_eqb (get_or object p 0) c other) in
+          ap (λ t. nat_lt (suc p) (length object) && (t || ends_at (c ∷ []) object (suc p))) some
+          ∙ ap (λ t. nat_lt (suc p) (length object) && t) ends
+          ∙ ap (λ t. t && false) (lt-ltb (suc p) (length object) within)
     ]
 
 pub start_behind : (c : ℕ) (object : List ℕ) (p : ℕ) → p + 1 < length object → get_or object p 0 ≡ c
@@ -61,26 +61,26 @@ clear_starts c object p n last clear =
     let one : p + 1 ≡ suc p = omega arith in
     elim (cases_lt (last - p) n) [
       | inl short ↦
-        let none : last + 1 - (p + n + 1) ≡ 0 = omega arith in
-        let empty : starts (c ∷ []) object (suc p) (last + 1 - (p + 1)) ≡ [] =
-            no_starts c object p (last + 1 - (p + 1)) (λ q low high.
-              let at : q ≡ p + (q - p) = omega arith in
-              subst (λ r. get_or object r 0 ≢ c) (sym at) (clear (q - p) (omega arith))) in
-        ap (starts (c ∷ []) object (p + n + 1)) none ∙ sym (ap (λ r. starts (c ∷ []) object r (last + 1 - (p + 1))) one ∙ empty)
+          let none : last + 1 - (p + n + 1) ≡ 0 = omega arith in
+          let empty : starts (c ∷ []) object (suc p) (last + 1 - (p + 1)) ≡ [] =
+          no_starts c object p (last + 1 - (p + 1)) (λ q low high.
+          let at : q ≡ p + (q - p) = omega arith in
+          subst (λ r. get_or object r 0 ≢ c) (sym at) (clear (q - p) (omega arith))) in
+          ap (starts (c ∷ []) object (p + n + 1)) none ∙ sym (ap (λ r. starts (c ∷ []) object r (last + 1 - (p + 1))) one ∙ empty)
       | inr long ↦
-        let split : last + 1 - (p + 1) ≡ n + (last + 1 - (p + n + 1)) = omega arith in
-        let on : suc p + n ≡ p + n + 1 = omega arith in
-        let empty : starts (c ∷ []) object (suc p) n ≡ [] =
-            no_starts c object p n (λ q low high.
-              let at : q ≡ p + (q - p) = omega arith in
-              subst (λ r. get_or object r 0 ≢ c) (sym at) (clear (q - p) (omega arith))) in
-        sym (
+          let split : last + 1 - (p + 1) ≡ n + (last + 1 - (p + n + 1)) = omega arith in
+          let on : suc p + n ≡ p + n + 1 = omega arith in
+          let empty : starts (c ∷ []) object (suc p) n ≡ [] =
+          no_starts c object p n (λ q low high.
+          let at : q ≡ p + (q - p) = omega arith in
+          subst (λ r. get_or object r 0 ≢ c) (sym at) (clear (q - p) (omega arith))) in
+          sym (
           ap (λ r. starts (c ∷ []) object r (last + 1 - (p + 1))) one
           ∙ ap (starts (c ∷ []) object (suc p)) split
           ∙ starts-append (c ∷ []) object (suc p) n (last + 1 - (p + n + 1))
           ∙ ap (λ l. l ++ starts (c ∷ []) object (suc p + n) (last + 1 - (p + n + 1))) empty
           ∙ ap (λ r. starts (c ∷ []) object r (last + 1 - (p + n + 1))) on
-        )
+          )
     ]
 
 -- a start in the range is the first of those from it on
@@ -117,7 +117,7 @@ before-long c xs zero within clear = omega arith
 before-long c [] (suc n) within clear = absurd (omega arith)
 before-long c (x ∷ xs) (suc n) within clear =
     let shown : before_delimiter (c ∷ []) (x ∷ xs) ≡ x ∷ before_delimiter (c ∷ []) xs =
-        ap (λ b. if b then [] else x ∷ before_delimiter (c ∷ []) xs) (test_one c x xs false (ne_eqb x c (clear 0 (omega arith)))) in
+    ap (λ b. if b then [] else x ∷ before_delimiter (c ∷ []) xs) (test_one c x xs false (ne_eqb x c (clear 0 (omega arith)))) in
     let rest : n ≤ length (before_delimiter (c ∷ []) xs) = before-long c xs n (omega arith) (λ k lt. clear (suc k) (omega arith)) in
     let longer : length (before_delimiter (c ∷ []) (x ∷ xs)) ≡ suc (length (before_delimiter (c ∷ []) xs)) = ap length shown in
     omega arith

@@ -1,12 +1,12 @@
 -- The line that is lent is the object's, and what is left behind it.
-use Rattle.std.proofs.Common.{◌≡◌, ◌≢◌, ℕ, ◌+◌, ◌-◌, ◌<◌, ◌≤◌, min, Bool, true, false, ◌==◌, List, [], ◌∷◌, length, take, drop, get_or, refl, sym, ap, ◌∙◌, subst, arith, length-take, length-drop}
+use Rattle.std.proofs.Common.{◌≡◌, ℕ, ◌+◌, ◌-◌, ◌<◌, ◌≤◌, Bool, true, false, ◌==◌, List, [], ◌∷◌, length, take, drop, get_or, refl, sym, ap, ◌∙◌, subst, arith, length-take, length-drop}
 use Rattle.std.proofs.lemmas.List.{get_or-drop, length-take-le, take_all}
 use Rattle.std.specs.Prelude.{slice_index, if◌then◌else◌}
 use mir.Val.{bool_byte}
 use Rattle.line_window.specs.declared.window.Body.{Body}
-use Rattle.line_window.specs.Starts.{starts_in, body, content, without_mark, whole_len}
+use Rattle.line_window.specs.Starts.{starts_in, body, without_mark}
 use Rattle.line_window.specs.Bytes.{HasNone}
-use Rattle.line_window.specs.Sliding.{View, kept_from, place, left, Holds, IsSound, SameRules}
+use Rattle.line_window.specs.Sliding.{View, place, Holds, IsSound, SameRules}
 use Rattle.line_window.specs.Answers.{IsLent}
 use Rattle.line_window.specs.Steps.{IsBody, Leaves, ahead}
 use Rattle.line_window.proofs.WindowLaws.{holds_passed, left_passed, sound_passed, lent_ended, lent_open, lent_long}
@@ -33,8 +33,8 @@ leaves old new c b sound rules upto failed lead delimiter same kept led near is_
       told = λ object h. (
         holds_passed object old new (old.lead + b.len) sound.kept rules.size upto kept within h,
         left_passed object c old new old.lead b.len sound.kept delimiter rules.last upto lead kept within
-        (λ k lt read. clear_of old c b.len same is_body.clear k lt (get_or-drop old.lead old.kept k 0 ∙ read)) h
-        ∙ ap (λ d. starts_in d object (place old + 1) old.last) (sym same),
+            (λ k lt read. clear_of old c b.len same is_body.clear k lt (get_or-drop old.lead old.kept k 0 ∙ read)) h
+            ∙ ap (λ d. starts_in d object (place old + 1) old.last) (sym same),
       );
     }
 
@@ -43,7 +43,7 @@ pub too_long : (object : List ℕ) (c : ℕ) (v : View) (b : Body) → IsSound v
     → IsBody v b → v.longest < b.len → v.longest < length (body v.delimiter object (place v))
 too_long object c v b sound holds led delimiter is_body long =
     let at_least : b.len ≤ length (body v.delimiter object (place v)) =
-        lent_long object c b.len v holds led sound.kept sound.read delimiter is_body.within (clear_of v c b.len delimiter is_body.clear) in
+    lent_long object c b.len v holds led sound.kept sound.read delimiter is_body.within (clear_of v c b.len delimiter is_body.clear) in
     omega arith
 
 -- the line at the place is lent with its content and its whole length

@@ -5,3 +5,4 @@ pub mod ScanLaws
 pub mod LendLaws
 pub mod WayLaws
 pub mod TurnLaws
+pub mod RunLaws

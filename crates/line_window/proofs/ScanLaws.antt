@@ -1,7 +1,7 @@
 -- A search for the end of a line that goes on where an earlier one ended.
-use Rattle.std.proofs.Common.{◌≡◌, ◌≢◌, ℕ, ◌+◌, ◌-◌, ◌<◌, ◌≤◌, true, false, List, [], ◌∷◌, length, take, drop, get_or, refl, sym, ap, ◌∙◌, subst, inl, inr, arith, length-take, length-drop}
+use Rattle.std.proofs.Common.{◌≡◌, ℕ, ◌+◌, ◌-◌, ◌<◌, ◌≤◌, true, false, List, length, take, drop, get_or, sym, ap, ◌∙◌, subst, inl, inr, arith, length-take, length-drop}
 use Rattle.std.specs.Prelude.{slice_index}
-use Rattle.std.proofs.lemmas.List.{take_rest, get_or-drop, get_or-take, drop_all, drop-take, drop-drop}
+use Rattle.std.proofs.lemmas.List.{take_rest, get_or-drop, get_or-take, drop-take, drop-drop}
 use Rattle.std.proofs.lemmas.Bool.{cases_lt, false≢true, true≢false}
 use Rattle.line_window.specs.Bytes.{HasNone, IsFirstAt}
 use Rattle.line_window.specs.Sliding.{View}
@@ -13,8 +13,8 @@ joined c s n xs below above k lt =
     elim (cases_lt k s) [
       | inl low ↦ below k low
       | inr high ↦ λ read.
-        let at : s + (k - s) ≡ k = omega arith in
-        above (k - s) (omega arith) (get_or-drop s xs (k - s) 0 ∙ ap (λ n. get_or xs n 0) at ∙ read)
+          let at : s + (k - s) ≡ k = omega arith in
+          above (k - s) (omega arith) (get_or-drop s xs (k - s) 0 ∙ ap (λ n. get_or xs n 0) at ∙ read)
     ]
 
 pub scan_found : (c s at : ℕ) (xs : List ℕ) → s ≤ length xs → HasNone c xs s → IsFirstAt c (take (length xs - s) (drop s xs)) at
@@ -44,9 +44,9 @@ pub clear_ahead : (v : View) (byte s : ℕ) (shown : List ℕ) → slice_index v
     → IsClear v (length shown)
 clear_ahead v byte s shown same is within below none =
     let at_ahead : HasNone byte (take (length (ahead v) - s) (drop s (ahead v))) (length (take (length (ahead v) - s) (drop s (ahead v)))) =
-        subst (λ l. HasNone byte (take (length l - s) (drop s l)) (length (take (length l - s) (drop s l)))) is none in
+    subst (λ l. HasNone byte (take (length l - s) (drop s l)) (length (take (length l - s) (drop s l)))) is none in
     let of_delimiter : HasNone (slice_index v.delimiter 0) (take (length (ahead v) - s) (drop s (ahead v))) (length (take (length (ahead v) - s) (drop s (ahead v)))) =
-        subst (λ b. HasNone b (take (length (ahead v) - s) (drop s (ahead v))) (length (take (length (ahead v) - s) (drop s (ahead v))))) (sym same) at_ahead in
+    subst (λ b. HasNone b (take (length (ahead v) - s) (drop s (ahead v))) (length (take (length (ahead v) - s) (drop s (ahead v))))) (sym same) at_ahead in
     subst (IsClear v) (ap length (sym is)) (scan_none (slice_index v.delimiter 0) s (ahead v) within below of_delimiter)
 
 -- the delimiter was found in the bytes ahead
@@ -55,9 +55,9 @@ pub body_found : (v : View) (byte s at : ℕ) (shown : List ℕ) → slice_index
     → IsBody v (record { len = s + at; delimited = true })
 body_found v byte s at shown same is within below first =
     let at_ahead : IsFirstAt byte (take (length (ahead v) - s) (drop s (ahead v))) at =
-        subst (λ l. IsFirstAt byte (take (length l - s) (drop s l)) at) is first in
+    subst (λ l. IsFirstAt byte (take (length l - s) (drop s l)) at) is first in
     let of_delimiter : IsFirstAt (slice_index v.delimiter 0) (take (length (ahead v) - s) (drop s (ahead v))) at =
-        subst (λ b. IsFirstAt b (take (length (ahead v) - s) (drop s (ahead v))) at) (sym same) at_ahead in
+    subst (λ b. IsFirstAt b (take (length (ahead v) - s) (drop s (ahead v))) at) (sym same) at_ahead in
     let found = scan_found (slice_index v.delimiter 0) s at (ahead v) within below of_delimiter in
     let some : s + at < length (ahead v) = found.within in
     record {
@@ -84,8 +84,7 @@ pub front_found : (c n at : ℕ) (xs shown : List ℕ) → shown ≡ xs → IsFi
 front_found c n at xs shown is within =
     let here : IsFirstAt c (take n xs) at = subst (λ l. IsFirstAt c (take n l) at) is within in
     let low : at < length (take n xs) = here.within in
-    let len = length-take n xs in
-    (
+    let len = length-take n xs in (
       record {
         within = omega arith;
         here = sym (get_or-take n xs at 0 (omega arith)) ∙ here.here;
@@ -106,9 +105,9 @@ pub kept_after : (xs : List ℕ) (s e i : ℕ) → s + i ≤ e → take (e - (s 
 kept_after xs s e i within =
     let all : e - s ≡ i + (e - (s + i)) = omega arith in
     sym (
-      ap (λ n. drop i (take n (drop s xs))) all
-      ∙ drop-take i (e - (s + i)) (drop s xs)
-      ∙ ap (take (e - (s + i))) (drop-drop i s xs)
+    ap (λ n. drop i (take n (drop s xs))) all
+    ∙ drop-take i (e - (s + i)) (drop s xs)
+    ∙ ap (take (e - (s + i))) (drop-drop i s xs)
     )
 
 pub kept_len : (xs : List ℕ) (s e : ℕ) → s ≤ e → e ≤ length xs → length (take (e - s) (drop s xs)) ≡ e - s

@@ -1,9 +1,9 @@
 -- The laws of starts, for any delimiter: adjacent ranges append, and near bytes tell them.
-use Rattle.std.proofs.Common.{◌≡◌, ℕ, zero, suc, ◌+◌, ◌-◌, ◌<◌, ◌≤◌, min, Bool, true, false, ◌&&◌, ◌||◌, ◌==◌, List, [], ◌∷◌, ◌++◌, length, take, drop, get_or, refl, sym, ap, ◌∙◌, subst, arith, inl, inr, length-take, length-drop}
+use Rattle.std.proofs.Common.{◌≡◌, ℕ, zero, suc, ◌+◌, ◌-◌, ◌<◌, ◌≤◌, min, Bool, true, false, ◌&&◌, ◌||◌, ◌==◌, List, ◌∷◌, ◌++◌, length, take, drop, refl, sym, ap, ◌∙◌, subst, arith, inl, inr, length-take, length-drop}
 use Rattle.std.proofs.lemmas.List.{drop-take, drop-drop, take-take}
 use Rattle.std.proofs.lemmas.Bool.{cases_lt, lt-ltb, le-ltb, lt-leb, and_left}
 use Rattle.std.specs.Prelude.{bytes_eq, nat_lt, nat_le, if◌then◌else◌}
-use Rattle.line_window.specs.Starts.{ends_at, is_start, starts, starts_in, bytes_between, AdjacentRangesAppend, NearBytesTell}
+use Rattle.line_window.specs.Starts.{ends_at, is_start, starts, starts_in, AdjacentRangesAppend, NearBytesTell}
 
 -- a first element that is there or not goes before what is joined
 if_cons-append : (b : Bool) (a : ℕ) (xs ys zs : List ℕ) → xs ≡ ys ++ zs

@@ -1,16 +1,16 @@
 -- One call of `next`: the way to the next start, the way to the end of its line, and the line that is lent.
-use Rattle.std.proofs.Common.{◌≡◌, ℕ, ◌+◌, ◌-◌, ◌<◌, ◌≤◌, Bool, true, false, List, [], ◌∷◌, length, Result, Ok, Err, refl, sym, ap, ◌∙◌, subst, arith}
+use Rattle.std.proofs.Common.{◌≡◌, ℕ, ◌+◌, ◌-◌, ◌<◌, ◌≤◌, Bool, true, false, List, ◌∷◌, length, Result, Ok, Err, sym, ap, ◌∙◌, subst, arith}
 use Rattle.std.specs.Prelude.{IsErr, is_err, OnErr}
-use Rattle.std.proofs.lemmas.Bool.{true≢false, false≢true}
+use Rattle.std.proofs.lemmas.Bool.{false≢true}
 use Rattle.select_ports.specs.declared.outcome.Failed.{Failed}
 use Rattle.select_ports.specs.Stored.{Opened}
 use Rattle.line_window.specs.declared.line.Line.{Line}
 use Rattle.line_window.specs.declared.line.Line.TheVariants.{At, TooLong, End}
 use Rattle.line_window.specs.declared.window.Body.{Body}
 use Rattle.line_window.specs.Starts.{starts_in, body}
-use Rattle.line_window.specs.Sliding.{View, place, left, Tells, Holds, IsSound, SameRules, Took}
-use Rattle.line_window.specs.Answers.{IsLent, IsLineAt, IsSomeLine, IsNextLine, IsDone, Ends, Turns}
-use Rattle.line_window.specs.Steps.{Grows, Passes, Measures, Leaves}
+use Rattle.line_window.specs.Sliding.{View, place, left, Holds}
+use Rattle.line_window.specs.Answers.{IsLent, IsLineAt, IsSomeLine, IsNextLine, Ends, Turns}
+use Rattle.line_window.specs.Steps.{Passes, Measures, Leaves}
 use Rattle.line_window.proofs.WayLaws.{took_more, same_rules, grown_place, grown_left}
 
 -- the line at the first start that was left
@@ -20,14 +20,14 @@ next_line : (object : List ℕ) (old new : View) (longest : ℕ) (delimiter : Li
 next_line object old new longest delimiter p (At start bytes whole) some is_line same_limit same_delimiter first = (
   first ∙ ap (λ q. q ∷ left object new) (sym is_line.0),
   subst (λ l. IsLent l old.delimiter object start bytes.now whole) same_limit
-  (subst (λ d. IsLent longest d object start bytes.now whole) same_delimiter
-  (subst (λ q. IsLent longest delimiter object q bytes.now whole) (sym is_line.0) is_line.1)),
+      (subst (λ d. IsLent longest d object start bytes.now whole) same_delimiter
+      (subst (λ q. IsLent longest delimiter object q bytes.now whole) (sym is_line.0) is_line.1)),
 )
 next_line object old new longest delimiter p (TooLong start) some is_line same_limit same_delimiter first = (
   first ∙ ap (λ q. q ∷ left object new) (sym is_line.0),
   subst (λ l. l < length (body old.delimiter object start)) same_limit
-  (subst (λ d. longest < length (body d object start)) same_delimiter
-  (subst (λ q. longest < length (body delimiter object q)) (sym is_line.0) is_line.1)),
+      (subst (λ d. longest < length (body d object start)) same_delimiter
+      (subst (λ q. longest < length (body delimiter object q)) (sym is_line.0) is_line.1)),
 )
 next_line object old new longest delimiter p End some is_line same_limit same_delimiter first = absurd some
 
@@ -64,10 +64,10 @@ turn_failed opened old passed new found measured (Err e) before between after wo
       ends = measures.failed ∙ failed;
       stays_done = λ done fine. absurd (not_done opened old passed found before between passes reached done);
       told = λ object tells h.
-      let at = passes.told object tells h in (
-        measures.told object tells at.0,
-        grown_left object passed new passes.sound.kept measures.grows ∙ at.1,
-      );
+          let at = passes.told object tells h in (
+            measures.told object tells at.0,
+            grown_left object passed new passes.sound.kept measures.grows ∙ at.1,
+          );
     }
 
 -- a line was reached, measured and lent
@@ -96,20 +96,20 @@ turn_line opened old passed measured new found b result line before between afte
       ends = not_ended old new line some (near (not_done opened old passed found before between passes reached)) (omega arith);
       stays_done = λ done fine. absurd (not_done opened old passed found before between passes reached done);
       told = λ object tells h.
-      let at = passes.told object tells h in
-      let at_measured = measures.told object tells at.0 in
-      let at_new = leaves.told object at_measured in (
-        at_new.0,
-        next_line object old new measured.longest measured.delimiter (place measured) line some (is_line object at_measured) rules.longest rules.delimiter
-        (
-          sym at.1
-          ∙ passes.ready object tells h reached
-          ∙ ap (λ q. q ∷ starts_in passed.delimiter object (q + 1) passed.last) (sym here)
-          ∙ ap (λ d. place measured ∷ starts_in d object (place measured + 1) passed.last) (sym measures.grows.rules.delimiter)
-          ∙ ap (λ n. place measured ∷ starts_in measured.delimiter object (place measured + 1) n) (sym measures.grows.rules.last)
-          ∙ ap (λ l. place measured ∷ l) (sym at_new.1)
-        ),
-      );
+          let at = passes.told object tells h in
+          let at_measured = measures.told object tells at.0 in
+          let at_new = leaves.told object at_measured in (
+            at_new.0,
+            next_line object old new measured.longest measured.delimiter (place measured) line some (is_line object at_measured) rules.longest rules.delimiter
+                (
+                sym at.1
+                ∙ passes.ready object tells h reached
+                ∙ ap (λ q. q ∷ starts_in passed.delimiter object (q + 1) passed.last) (sym here)
+                ∙ ap (λ d. place measured ∷ starts_in d object (place measured + 1) passed.last) (sym measures.grows.rules.delimiter)
+                ∙ ap (λ n. place measured ∷ starts_in measured.delimiter object (place measured + 1) n) (sym measures.grows.rules.last)
+                ∙ ap (λ l. place measured ∷ l) (sym at_new.1)
+                ),
+          );
     }
 
 -- a fact holds of a failure

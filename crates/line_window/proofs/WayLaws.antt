@@ -1,15 +1,13 @@
 -- The loops of a window: the way to the next start, and to the end of a line.
-use Rattle.std.proofs.Common.{◌≡◌, ◌≢◌, ℕ, ◌+◌, ◌-◌, ◌^◌, ◌<◌, ◌≤◌, min, Bool, true, false, List, [], ◌∷◌, ◌++◌, length, take, drop, get_or, Result, Ok, Err, refl, sym, ap, ◌∙◌, subst, inl, inr, arith, length-take, length-drop, length-append}
+use Rattle.std.proofs.Common.{◌≡◌, ℕ, ◌+◌, ◌-◌, ◌≤◌, true, false, List, [], ◌++◌, length, drop, get_or, Result, Ok, Err, refl, sym, ap, ◌∙◌, inl, inr, arith, length-append}
 use Rattle.std.proofs.lemmas.List.{append-nil, append_assoc, drop-append-le, get_or_append_left}
 use Rattle.std.proofs.lemmas.Bool.{cases_lt}
 use Rattle.std.specs.Prelude.{slice_index, IsErr}
 use Rattle.select_ports.specs.declared.outcome.Failed.{Failed}
 use Rattle.select_ports.specs.Stored.{Opened}
-use Rattle.line_window.specs.declared.window.Sight.TheVariants.{Start, More, Past}
 use Rattle.line_window.specs.Starts.{starts_in}
-use Rattle.line_window.specs.Bytes.{HasNone}
-use Rattle.line_window.specs.Sliding.{View, kept_from, place, left, Tells, Holds, IsSound, SameRules, Took}
-use Rattle.line_window.specs.Steps.{Grows, IsClear, Skips, Passing, Passes, Measuring, Measures, ahead}
+use Rattle.line_window.specs.Sliding.{View, place, left, Tells, Holds, IsSound, SameRules, Took}
+use Rattle.line_window.specs.Steps.{Grows, IsClear, Measuring, Measures, ahead}
 use Rattle.line_window.specs.declared.window.Body.{Body}
 
 pub took_none : (n before : ℕ) → n ≡ 0 → Took n before before
@@ -19,17 +17,17 @@ pub took_more : (a b n before mid now : ℕ) → n ≡ a + b → Took a before m
 took_more a b n before mid now sum first second = record {
   none = λ e. second.none (omega arith) ∙ first.none (omega arith);
   some = λ lt.
-  elim (cases_lt 0 a) [
-    | inl more ↦
-      let at_mid = first.some more in
-      elim (cases_lt 0 b) [
-        | inl again ↦ let at_end = second.some again in omega arith
-        | inr still ↦ let at_end = second.none (omega arith) in omega arith
-      ]
-    | inr still ↦
-      let at_mid = first.none (omega arith) in
-      let again = second.some (omega arith) in omega arith
-  ];
+      elim (cases_lt 0 a) [
+        | inl more ↦
+            let at_mid = first.some more in
+            elim (cases_lt 0 b) [
+              | inl again ↦ let at_end = second.some again in omega arith
+              | inr still ↦ let at_end = second.none (omega arith) in omega arith
+            ]
+        | inr still ↦
+            let at_mid = first.none (omega arith) in
+            let again = second.some (omega arith) in omega arith
+      ];
 }
 
 pub same_rules : (a b c : View) → SameRules a b → SameRules b c → SameRules a c
@@ -105,11 +103,11 @@ measuring_more opened old mid new scanned n before between after measuring led a
       failed = failed ∙ measuring.failed;
       within = omega arith;
       clear = λ k lt read. clear k lt (
-        sym (get_or_append_left (ahead mid) grows.piece 0 k (omega arith))
-        ∙ ap (λ l. get_or l k 0) (sym shown)
-        ∙ read
-        ∙ ap (λ d. slice_index d 0) grows.rules.delimiter
-      );
+          sym (get_or_append_left (ahead mid) grows.piece 0 k (omega arith))
+          ∙ ap (λ l. get_or l k 0) (sym shown)
+          ∙ read
+          ∙ ap (λ d. slice_index d 0) grows.rules.delimiter
+          );
       told = λ object tells h. holds object tells (measuring.told object tells h);
     }
 

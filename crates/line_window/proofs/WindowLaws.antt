@@ -1,15 +1,12 @@
 -- A window over an object whose bytes it keeps: reading on, and passing bytes that are no delimiter.
-use Rattle.std.proofs.Common.{◌≡◌, ◌≢◌, ℕ, zero, suc, ◌+◌, ◌-◌, ◌<◌, ◌≤◌, min, Bool, true, false, ◌==◌, List, [], ◌∷◌, ◌++◌, length, take, drop, get_or, refl, sym, ap, ◌∙◌, subst, inl, inr, arith, length-take, length-drop, length-append}
-use Rattle.std.proofs.lemmas.List.{drop-take, drop-drop, take-take, take_all, length-take-le, get_or-take, get_or-drop, take-append-drop}
-use Rattle.std.specs.Prelude.{nat_lt, if◌then◌else◌}
-use Rattle.line_window.specs.Starts.{is_start, starts_in, before_delimiter, body, content, without_mark, whole_len}
+use Rattle.std.proofs.Common.{◌≡◌, ◌≢◌, ℕ, zero, suc, ◌+◌, ◌-◌, ◌<◌, ◌≤◌, true, List, [], ◌∷◌, ◌++◌, length, take, drop, get_or, refl, sym, ap, ◌∙◌, subst, arith, length-drop, length-append}
+use Rattle.std.proofs.lemmas.List.{drop-take, drop-drop, take-take, take_all, get_or-take, get_or-drop}
+use Rattle.line_window.specs.Starts.{is_start, starts_in, before_delimiter, body}
 use Rattle.line_window.specs.Sliding.{View, kept_from, place, left, Holds, IsSound, SameRules}
-use Rattle.line_window.specs.Answers.{IsLent}
 use Rattle.line_window.specs.declared.window.Sight.{Sight}
-use Rattle.line_window.specs.declared.window.Sight.TheVariants.{Start, More, Past}
-use Rattle.line_window.specs.Bytes.{HasNone, IsFirstAt}
+use Rattle.line_window.specs.declared.window.Sight.TheVariants.{Start}
+use Rattle.line_window.specs.Bytes.{HasNone}
 use Rattle.line_window.specs.Steps.{Grows, Shows, Skips, ahead}
-use Rattle.line_window.proofs.StartLaws.{take-drop-take-drop}
 use Rattle.line_window.proofs.ByteLaws.{clear_starts, start_first, start_behind, start_front, before-found, before-none, before-long}
 
 take_none : (n : ℕ) → take {A = ℕ} n [] ≡ []
@@ -55,14 +52,14 @@ holds_grown object old new piece fits size kept upto read holds =
     record {
       size = holds.size ∙ sym size;
       kept =
-        kept
-        ∙ ap (λ l. l ++ piece) holds.kept
-        ∙ ap (λ l. take (length old.kept) (drop (kept_from old) object) ++ l) read
-        ∙ ap (λ q. take (length old.kept) (drop (kept_from old) object) ++ take (length piece) (drop q object)) (sym on)
-        ∙ ap (λ l. take (length old.kept) (drop (kept_from old) object) ++ take (length piece) l) (sym (drop-drop (length old.kept) (kept_from old) object))
-        ∙ sym (take-add (length old.kept) (length piece) (drop (kept_from old) object))
-        ∙ ap (λ n. take n (drop (kept_from old) object)) (sym longer)
-        ∙ ap (λ q. take (length new.kept) (drop q object)) (sym from);
+          kept
+          ∙ ap (λ l. l ++ piece) holds.kept
+          ∙ ap (λ l. take (length old.kept) (drop (kept_from old) object) ++ l) read
+          ∙ ap (λ q. take (length old.kept) (drop (kept_from old) object) ++ take (length piece) (drop q object)) (sym on)
+          ∙ ap (λ l. take (length old.kept) (drop (kept_from old) object) ++ take (length piece) l) (sym (drop-drop (length old.kept) (kept_from old) object))
+          ∙ sym (take-add (length old.kept) (length piece) (drop (kept_from old) object))
+          ∙ ap (λ n. take n (drop (kept_from old) object)) (sym longer)
+          ∙ ap (λ q. take (length new.kept) (drop q object)) (sym from);
     }
 
 -- kept bytes that were passed are kept no more
@@ -75,13 +72,13 @@ holds_passed object old new i fits size upto kept within holds =
     record {
       size = holds.size ∙ sym size;
       kept =
-        kept
-        ∙ ap (drop i) holds.kept
-        ∙ ap (λ n. drop i (take n (drop (kept_from old) object))) all
-        ∙ drop-take i (length old.kept - i) (drop (kept_from old) object)
-        ∙ ap (take (length old.kept - i)) (drop-drop i (kept_from old) object)
-        ∙ ap (λ q. take (length old.kept - i) (drop q object)) from
-        ∙ ap (λ n. take n (drop (kept_from new) object)) (sym shorter);
+          kept
+          ∙ ap (drop i) holds.kept
+          ∙ ap (λ n. drop i (take n (drop (kept_from old) object))) all
+          ∙ drop-take i (length old.kept - i) (drop (kept_from old) object)
+          ∙ ap (take (length old.kept - i)) (drop-drop i (kept_from old) object)
+          ∙ ap (λ q. take (length old.kept - i) (drop q object)) from
+          ∙ ap (λ n. take n (drop (kept_from new) object)) (sym shorter);
     }
 
 -- a kept byte is the object's
@@ -115,8 +112,8 @@ left_passed object c old new i n fits delimiter last upto lead kept within clear
     ∙ ap (starts_in (c ∷ []) object (place new)) last
     ∙ ap (λ q. starts_in (c ∷ []) object q old.last) at
     ∙ clear_starts c object (kept_from old + i) n old.last (λ k lt read.
-      let on : kept_from old + (i + k) ≡ kept_from old + i + k = omega arith in
-      clear k lt (kept_reads object old (i + k) holds (omega arith) ∙ ap (λ q. get_or object q 0) on ∙ read))
+    let on : kept_from old + (i + k) ≡ kept_from old + i + k = omega arith in
+    clear k lt (kept_reads object old (i + k) holds (omega arith) ∙ ap (λ q. get_or object q 0) on ∙ read))
 
 -- where the delimiter is the first kept byte, a line starts behind it
 pub ready_behind : (object : List ℕ) (c : ℕ) (v : View) → v.delimiter ≡ c ∷ [] → v.lead ≡ 1 → 0 < length v.kept
@@ -126,7 +123,7 @@ ready_behind object c v delimiter lead some here within before holds =
     let size = holds.size in
     let from : kept_from v + 0 ≡ kept_from v = omega arith in
     let read : get_or object (kept_from v) 0 ≡ c =
-        ap (λ q. get_or object q 0) (sym from) ∙ sym (kept_reads object v 0 holds some) ∙ here in
+    ap (λ q. get_or object q 0) (sym from) ∙ sym (kept_reads object v 0 holds some) ∙ here in
     let starts_here : is_start (c ∷ []) object (kept_from v + 1) ≡ true = start_behind c object (kept_from v) (omega arith) read in
     let at : kept_from v + 1 ≡ place v = ap (λ n. kept_from v + n) (sym lead) in
     start_first v.delimiter object (place v) v.last
@@ -151,9 +148,9 @@ lent_ended object c n v holds led fits read delimiter within here clear =
     let shown : ahead v ≡ take (length v.kept - v.lead) xs = ahead_is object v holds led in
     let len : length (ahead v) ≡ length v.kept - v.lead = length-drop v.lead v.kept in
     let same : (k : ℕ) → k < length (ahead v) → get_or (ahead v) k 0 ≡ get_or xs k 0 =
-        λ k lt. ap (λ l. get_or l k 0) shown ∙ get_or-take (length v.kept - v.lead) xs k 0 (omega arith) in
+    λ k lt. ap (λ l. get_or l k 0) shown ∙ get_or-take (length v.kept - v.lead) xs k 0 (omega arith) in
     let found : before_delimiter (c ∷ []) xs ≡ take n xs =
-        before-found c xs n (omega arith) (sym (same n within) ∙ here) (λ k lt e. clear k lt (same k (omega arith) ∙ e)) in
+    before-found c xs n (omega arith) (sym (same n within) ∙ here) (λ k lt e. clear k lt (same k (omega arith) ∙ e)) in
     let cut : take n (ahead v) ≡ take n xs = ap (take n) shown ∙ take-take n (length v.kept - v.lead) xs (omega arith) in
     (ap (λ d. body d object (place v)) delimiter ∙ found ∙ sym cut, omega arith)
 
@@ -168,8 +165,7 @@ lent_open object c v holds led fits read delimiter clear =
     let long : length xs ≡ length object - place v = length-drop (place v) object in
     let len : length (ahead v) ≡ length v.kept - v.lead = length-drop v.lead v.kept in
     let shown : ahead v ≡ xs = ahead_is object v holds led ∙ take_all (length v.kept - v.lead) xs (omega arith) in
-    let found : before_delimiter (c ∷ []) (ahead v) ≡ ahead v = before-none c (ahead v) clear in
-    (
+    let found : before_delimiter (c ∷ []) (ahead v) ≡ ahead v = before-none c (ahead v) clear in (
       ap (λ d. body d object (place v)) delimiter ∙ ap (before_delimiter (c ∷ [])) (sym shown) ∙ found,
       ap length shown ∙ long,
     )
@@ -186,9 +182,9 @@ lent_long object c n v holds led fits read delimiter within clear =
     let shown : ahead v ≡ take (length v.kept - v.lead) xs = ahead_is object v holds led in
     let len : length (ahead v) ≡ length v.kept - v.lead = length-drop v.lead v.kept in
     let same : (k : ℕ) → k < length (ahead v) → get_or (ahead v) k 0 ≡ get_or xs k 0 =
-        λ k lt. ap (λ l. get_or l k 0) shown ∙ get_or-take (length v.kept - v.lead) xs k 0 (omega arith) in
+    λ k lt. ap (λ l. get_or l k 0) shown ∙ get_or-take (length v.kept - v.lead) xs k 0 (omega arith) in
     let longer : n ≤ length (before_delimiter (c ∷ []) xs) =
-        before-long c xs n (omega arith) (λ k lt e. clear k lt (same k (omega arith) ∙ e)) in
+    before-long c xs n (omega arith) (λ k lt e. clear k lt (same k (omega arith) ∙ e)) in
     subst (λ d. n ≤ length (body d object (place v))) (sym delimiter) longer
 
 -- a window that read on is sound
@@ -248,7 +244,7 @@ skipped old new c i sight sound rules upto failed lead leads delimiter same kept
     let at_none : (k : ℕ) → k ≡ 0 + k = λ k. omega arith in
     let here : kept_from old + 0 + 1 ≡ place old = omega arith in
     let holds : (object : List ℕ) → Holds object old → Holds object new =
-        λ object h. holds_passed object old new i sound.kept rules.size upto kept within h in
+    λ object h. holds_passed object old new i sound.kept rules.size upto kept within h in
     record {
       sound = sound_new;
       rules = rules;
@@ -260,11 +256,11 @@ skipped old new c i sight sound rules upto failed lead leads delimiter same kept
       told = λ object h. (
         holds object h,
         left_passed object c old new 0 i sound.kept delimiter rules.last upto leads (kept ∙ ap (λ n. drop n old.kept) none_more) (omega arith)
-        (λ k lt read. clear k lt (ap (λ n. get_or old.kept n 0) (at_none k) ∙ read)) h
-        ∙ ap (λ q. starts_in (c ∷ []) object q old.last) here
-        ∙ ap (λ d. starts_in d object (place old) old.last) (sym same),
+            (λ k lt read. clear k lt (ap (λ n. get_or old.kept n 0) (at_none k) ∙ read)) h
+            ∙ ap (λ q. starts_in (c ∷ []) object q old.last) here
+            ∙ ap (λ d. starts_in d object (place old) old.last) (sym same),
       );
       ready = λ object h start.
-      let at = ready start in
-      ready_behind object c new delimiter leads at.0 at.1 at.2 (sound_new.begun at.2) (holds object h);
+          let at = ready start in
+          ready_behind object c new delimiter leads at.0 at.1 at.2 (sound_new.begun at.2) (holds object h);
     }

@@ -1,5 +1,5 @@
 -- What the answers of a window's `next` say of the object.
-use Rattle.std.specs.Prelude.{◌≡◌, ℕ, ◌+◌, ◌-◌, ◌<◌, ◌≤◌, Bool, true, false, List, [], ◌∷◌, length, Result, Ok, Err, IsErr, is_err}
+use Rattle.std.specs.Prelude.{◌≡◌, ℕ, ◌-◌, ◌<◌, ◌≤◌, true, false, List, [], ◌∷◌, length, Result, Ok, Err, IsErr, is_err}
 use Rattle.select_ports.specs.declared.outcome.Failed.{Failed}
 use Rattle.select_ports.specs.Stored.{Opened}
 use Rattle.line_window.specs.declared.line.Line.{Line}

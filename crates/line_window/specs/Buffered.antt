@@ -1,5 +1,5 @@
 -- How a window keeps its bytes in its buffer.
-use Rattle.std.specs.Prelude.{◌≡◌, ℕ, ◌+◌, ◌-◌, ◌<◌, ◌≤◌, List, [], ◌∷◌, length, take, drop}
+use Rattle.std.specs.Prelude.{◌≡◌, ◌+◌, ◌-◌, ◌≤◌, [], ◌∷◌, length, take, drop}
 use Rattle.line_window.specs.declared.window.Window.TheInside.{Inside}
 use Rattle.line_window.specs.Sliding.{View, IsSound}
 

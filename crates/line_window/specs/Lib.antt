@@ -4,3 +4,4 @@ pub mod Sliding
 pub mod Answers
 pub mod Buffered
 pub mod Steps
+pub mod Runs

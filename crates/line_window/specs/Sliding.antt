@@ -1,5 +1,5 @@
 -- What a window over a stored object shows: the bytes that it has read and keeps, and which starts it has still to answer.
-use Rattle.std.specs.Prelude.{◌≡◌, ℕ, ◌+◌, ◌-◌, ◌^◌, ◌<◌, ◌≤◌, List, length, take, drop, min, Bool, false, Some}
+use Rattle.std.specs.Prelude.{◌≡◌, ℕ, ◌+◌, ◌-◌, ◌<◌, ◌≤◌, List, length, take, drop, Bool, false, Some}
 use Rattle.select_ports.specs.Causes.{RoseBy}
 use Rattle.select_ports.specs.declared.outcome.Range.{Range}
 use Rattle.select_ports.specs.Stored.{Opened}

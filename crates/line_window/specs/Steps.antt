@@ -1,5 +1,5 @@
 -- What the window's own steps do: reading on, passing to the next start, and finding the end of a line.
-use Rattle.std.specs.Prelude.{◌≡◌, ◌≢◌, ℕ, ◌+◌, ◌-◌, ◌<◌, ◌≤◌, Bool, true, false, List, [], ◌∷◌, ◌++◌, length, take, drop, slice_index, Result, Ok, Err, IfOk, is_err}
+use Rattle.std.specs.Prelude.{◌≡◌, ℕ, ◌+◌, ◌-◌, ◌<◌, ◌≤◌, Bool, true, false, List, [], ◌∷◌, ◌++◌, length, drop, slice_index, Result, Ok, IfOk, is_err}
 use Rattle.select_ports.specs.declared.outcome.Failed.{Failed}
 use Rattle.select_ports.specs.Stored.{Opened}
 use Rattle.line_window.specs.declared.window.Sight.{Sight}
@@ -9,7 +9,7 @@ use Rattle.line_window.specs.declared.window.Scan.{Scan}
 use Rattle.line_window.specs.declared.window.Scan.TheVariants.{Found, Unended}
 use Rattle.line_window.specs.Bytes.{HasNone}
 use Rattle.line_window.specs.Starts.{starts_in}
-use Rattle.line_window.specs.Sliding.{View, kept_from, place, left, Tells, Holds, IsSound, SameRules, Took}
+use Rattle.line_window.specs.Sliding.{View, place, left, Tells, Holds, IsSound, SameRules, Took}
 
 -- the kept bytes from the first place on at which a line may start
 abbrev pub ahead : View → List ℕ

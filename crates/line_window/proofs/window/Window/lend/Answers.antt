@@ -1,10 +1,10 @@
-use Rattle.std.proofs.Common.{◌≡◌, ℕ, ◌+◌, ◌-◌, ◌<◌, ◌≤◌, ◌==◌, List, [], ◌∷◌, length, take, drop, refl, sym, ap, ◌∙◌, subst, arith, length-drop}
+use Rattle.std.proofs.Common.{◌≡◌, ◌+◌, ◌-◌, ◌==◌, [], ◌∷◌, take, drop, refl, sym, ap, ◌∙◌, subst, arith, length-drop}
 use Rattle.std.specs.Prelude.{if◌then◌else◌}
 use Rattle.line_window.specs.Buffered.{view_of}
 use Rattle.line_window.specs.Starts.{without_mark}
-use Rattle.line_window.specs.Sliding.{View, place, Holds}
+use Rattle.line_window.specs.Sliding.{place}
 use Rattle.line_window.specs.Answers.{IsLent}
-use Rattle.line_window.specs.Steps.{IsBody, ahead}
+use Rattle.line_window.specs.Steps.{ahead}
 use Rattle.line_window.proofs.StartLaws.{take-drop-take-drop}
 use Rattle.line_window.proofs.ScanLaws.{kept_after, kept_len}
 use Rattle.line_window.proofs.LendLaws.{leaves, too_long, lent_is}
@@ -26,8 +26,8 @@ returns-then-len-self c =
         refl,
         λ _. tt,
         leaves (view_of w) _ w.delimiter c.args.body sound (record { size = refl; last = refl; longest = refl; delimiter = refl }) refl refl refl refl refl
-        (ap (λ s. take (w.end - s) (drop s w.buffer.items)) at ∙ kept_after w.buffer.items w.start w.end (w.lead + c.args.body.len) (omega arith))
-        led near is_body,
+            (ap (λ s. take (w.end - s) (drop s w.buffer.items)) at ∙ kept_after w.buffer.items w.start w.end (w.lead + c.args.body.len) (omega arith))
+            led near is_body,
       ),
       record {
         after = tt;
@@ -52,28 +52,28 @@ returns c =
     let cut : from + n - from ≡ n = omega arith in
     let start : w.upto - (w.end - w.start) + w.lead ≡ place (view_of w) = omega arith in
     let read : take (from + n - from) (drop from c.deref.result.now) ≡ take n (ahead (view_of w)) =
-        ap (λ k. take k (drop from c.deref.result.now)) cut
-        ∙ ap (λ l. take n (drop from l)) c.deref.ensures.value
-        ∙ sym (take-drop-take-drop w.buffer.items w.start (w.end - w.start) w.lead n (omega arith)) in
+    ap (λ k. take k (drop from c.deref.result.now)) cut
+    ∙ ap (λ l. take n (drop from l)) c.deref.ensures.value
+    ∙ sym (take-drop-take-drop w.buffer.items w.start (w.end - w.start) w.lead n (omega arith)) in
     let bytes : c.content-bytes.result.now ≡ (if place (view_of w) == 0 then without_mark (take n (ahead (view_of w))) else take n (ahead (view_of w))) =
-        c.content-bytes.ensures
-        ∙ ap (λ p. if p == 0 then without_mark (take (from + n - from) (drop from c.deref.result.now)) else take (from + n - from) (drop from c.deref.result.now)) start
-        ∙ ap (λ l. if place (view_of w) == 0 then without_mark l else l) read in
+    c.content-bytes.ensures
+    ∙ ap (λ p. if p == 0 then without_mark (take (from + n - from) (drop from c.deref.result.now)) else take (from + n - from) (drop from c.deref.result.now)) start
+    ∙ ap (λ l. if place (view_of w) == 0 then without_mark l else l) read in
     rw (← c.self.view_is) (
       (
         refl,
         λ _. tt,
         leaves (view_of w) _ w.delimiter c.args.body sound (record { size = refl; last = refl; longest = refl; delimiter = refl }) refl refl refl refl refl
-        (ap (λ s. take (w.end - s) (drop s w.buffer.items)) at ∙ kept_after w.buffer.items w.start w.end (w.lead + n) (omega arith))
-        led near is_body,
+            (ap (λ s. take (w.end - s) (drop s w.buffer.items)) at ∙ kept_after w.buffer.items w.start w.end (w.lead + n) (omega arith))
+            led near is_body,
       ),
       record {
         after = tt;
         line = λ object h. (
           start,
           subst (λ l. IsLent w.longest (w.delimiter ∷ []) object (place (view_of w)) l (n + c.from.result)) (sym bytes)
-          (subst (λ b. IsLent w.longest (w.delimiter ∷ []) object (place (view_of w)) (if place (view_of w) == 0 then without_mark (take n (ahead (view_of w))) else take n (ahead (view_of w))) (n + b)) (sym c.from.ensures)
-          (lent_is object w.delimiter (view_of w) n c.args.body.delimited sound h led refl is_body c.if-len-self.false)),
+              (subst (λ b. IsLent w.longest (w.delimiter ∷ []) object (place (view_of w)) (if place (view_of w) == 0 then without_mark (take n (ahead (view_of w))) else take n (ahead (view_of w))) (n + b)) (sym c.from.ensures)
+              (lent_is object w.delimiter (view_of w) n c.args.body.delimited sound h led refl is_body c.if-len-self.false)),
         );
         some = tt;
       },

@@ -8,7 +8,7 @@ invariant-pieces g l = record {
   faults : g.S.Store.faults l.fn.store ≤ g.S.Store.faults l.store;
   held : g.S.Store.held l.store ≡ g.S.Store.held l.fn.store;
   current : g.S.Store.current l.store ≡ g.S.Store.current l.fn.store;
-  absent : g.S.Store.absent l.store ≡ g.S.Store.absent l.fn.store
+  absent : g.S.Store.absent l.store ≡ g.S.Store.absent l.fn.store;
 }
 
 abbrev pub decreases-pieces : goal.decreases-pieces

@@ -1,5 +1,4 @@
-use Rattle.std.proofs.Common.{◌≡◌, ℕ, ◌+◌, ◌-◌, ◌<◌, ◌≤◌, true, false, List, length, Result, Ok, refl, sym, ap, ◌∙◌, subst, arith}
-use Rattle.std.proofs.lemmas.Bool.{not-false}
+use Rattle.std.proofs.Common.{Ok, refl, sym, ap, ◌∙◌, subst, arith}
 use Rattle.std.specs.Prelude.{is_err}
 use Rattle.line_window.specs.Sliding.{View}
 use Rattle.line_window.specs.Steps.{Measures}
@@ -16,9 +15,9 @@ returns-in_err-body g c =
         refl,
         λ _. tt,
         turn_failed _ c.args.self.now c.reach.new.self c.measure.new.self c.reach.result c.measure.result c.from_residual-in_err-body.result _ _ _
-        works c.reach.ensures.window (c.in_ok-reach.was ∙ ap Ok c.if-not-branch.false)
-        (subst (λ o. Measures o c.reach.new.self c.measure.new.self c.measure.result (g.S.Store.taken c.reach.new.store) (g.S.Store.taken c.measure.new.store)) c.reach.ensures.current c.measure.ensures.window)
-        (ap is_err c.in_err-body.was) c.from_residual-in_err-body.ensures.0,
+            works c.reach.ensures.window (c.in_ok-reach.was ∙ ap Ok c.if-not-branch.false)
+            (subst (λ o. Measures o c.reach.new.self c.measure.new.self c.measure.result (g.S.Store.taken c.reach.new.store) (g.S.Store.taken c.measure.new.store)) c.reach.ensures.current c.measure.ensures.window)
+            (ap is_err c.in_err-body.was) c.from_residual-in_err-body.ensures.0,
       ),
       record {
         after = tt;
@@ -39,9 +38,9 @@ returns g c =
         refl,
         λ _. tt,
         turn_line _ c.args.self.now c.reach.new.self c.measure.new.self c.lend.follows.lender-at-none c.reach.result c.in_ok-body.body c.measure.result c.lend.result _ _ _
-        works c.reach.ensures.window (c.in_ok-reach.was ∙ ap Ok c.if-not-branch.false)
-        (subst (λ o. Measures o c.reach.new.self c.measure.new.self c.measure.result (g.S.Store.taken c.reach.new.store) (g.S.Store.taken c.measure.new.store)) c.reach.ensures.current c.measure.ensures.window)
-        c.in_ok-body.was c.lend.ensures.some c.lend.ensures.line c.lend.follows.holds-at-none,
+            works c.reach.ensures.window (c.in_ok-reach.was ∙ ap Ok c.if-not-branch.false)
+            (subst (λ o. Measures o c.reach.new.self c.measure.new.self c.measure.result (g.S.Store.taken c.reach.new.store) (g.S.Store.taken c.measure.new.store)) c.reach.ensures.current c.measure.ensures.window)
+            c.in_ok-body.was c.lend.ensures.some c.lend.ensures.line c.lend.follows.holds-at-none,
       ),
       record {
         after = tt;

@@ -1,7 +1,6 @@
-use Rattle.std.proofs.Common.{◌≡◌, ℕ, ◌+◌, ◌-◌, ◌<◌, ◌≤◌, List, length, take, drop, refl, sym, ap, ◌∙◌, subst, arith}
+use Rattle.std.proofs.Common.{◌≡◌, ◌≤◌, length, sym, ap, arith}
 use Rattle.std.specs.Prelude.{slice_index}
 use Rattle.line_window.specs.Sliding.{View}
-use Rattle.line_window.specs.Steps.{IsClear, ahead}
 use Rattle.line_window.proofs.ScanLaws.{clear_ahead, body_found, body_open}
 use Rattle.line_window.proofs.window.Window.scan.Goals as goal
 use Rattle.line_window.proofs.window.Window.scan.Goals.{then-len-self-via-then-len-self, then-len-self-via-else-len-self+then-self}
@@ -15,8 +14,8 @@ pub returns-then-len-self : goal.returns-then-len-self
 returns-then-len-self c =
     let w = c.self.inside in
     let clear =
-        clear_ahead c.args.self.now w.delimiter c.args.scanned c.line_bytes-ahead.result.now
-        (ap (λ (v : View). slice_index v.delimiter 0) (sym c.self.view_is)) c.line_bytes-ahead.ensures c.requires.within c.requires.clear c.in_default.ensures in
+    clear_ahead c.args.self.now w.delimiter c.args.scanned c.line_bytes-ahead.result.now
+    (ap (λ (v : View). slice_index v.delimiter 0) (sym c.self.view_is)) c.line_bytes-ahead.ensures c.requires.within c.requires.clear c.in_default.ensures in
     body_open c.args.self.now c.line_bytes-ahead.result.now c.line_bytes-ahead.ensures clear
     (rw (← c.self.view_is)
     (elim c.then-len-self.branch [
@@ -28,8 +27,8 @@ pub returns : goal.returns
 returns c =
     let w = c.self.inside in
     let clear =
-        clear_ahead c.args.self.now w.delimiter c.args.scanned c.line_bytes-ahead.result.now
-        (ap (λ (v : View). slice_index v.delimiter 0) (sym c.self.view_is)) c.line_bytes-ahead.ensures c.requires.within c.requires.clear c.in_default.ensures in
+    clear_ahead c.args.self.now w.delimiter c.args.scanned c.line_bytes-ahead.result.now
+    (ap (λ (v : View). slice_index v.delimiter 0) (sym c.self.view_is)) c.line_bytes-ahead.ensures c.requires.within c.requires.clear c.in_default.ensures in
     let read = c.self.invariant.sound.read in
     let longest = ap (λ (v : View). v.longest) c.self.view_is in
     let upto = ap (λ (v : View). v.upto) c.self.view_is in
