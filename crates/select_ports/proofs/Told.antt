@@ -49,7 +49,7 @@ front-joined : (first whole front : List ℕ) (more : List ℕ) → IsFront fron
 front-joined first whole front more is = record {
   rest = is.rest ++ more;
   joined = ap (λ l. first ++ (l ++ more)) is.joined ∙ ap (λ l. first ++ l) (append_assoc front is.rest more)
-    ∙ sym (append_assoc first front (is.rest ++ more));
+      ∙ sym (append_assoc first front (is.rest ++ more));
 }
 
 -- a front of a second part was added after the whole of a first

@@ -3,7 +3,9 @@ use Rattle.std.proofs.Common.{◌≡◌, ℕ, zero, suc, ◌+◌, ◌*◌, ◌^�
 use Rattle.std.specs.Prelude.{sum_by, filter, bytes_eq, nat_le, take_while}
 use Rattle.std.proofs.lemmas.List.Sums.{sum_by-append, take_while-cons}
 use Rattle.std.proofs.lemmas.Bool.{lt-leb, leb-true}
-use Rattle.std.specs.Io.KnownBytes.{Appends}
+use Rattle.std.specs.Io.KnownBytes.{Appends, Keeps}
+use Rattle.std.proofs.KnownBytes.{Appends-nil}
+use Rattle.select_ports.proofs.Told.{appends-kept}
 use Rattle.select_ports.specs.Streams.{IsFront}
 use Rattle.event_frame.specs.Event.{Event, records as records_event}
 use Rattle.line_window.specs.Starts.{starts, is_start, before_delimiter, body, content, whole_len, without_mark}
@@ -196,3 +198,23 @@ wrote_early wrap longest taken object places v begun before mid s byte far =
 -- a range within an object of 64 bits has fewer than 2^64 starts
 pub length-left : (object : List ℕ) (v : View) → v.last < v.size → v.size < 2 ^ 64 → length (left object v) < 2 ^ 64
 length-left object v within small = omega (arith, length-starts v.delimiter object (place v) (v.last + 1 - place v))
+
+none-early : (longest taken : ℕ) (rs : List Record) → taken ≡ 0 → early longest taken rs ≡ []
+none-early longest taken [] none = refl
+none-early longest taken (r ∷ rs) none =
+    let late_one : nat_le (r.start + r.len + (2 * longest + 5 * 65536)) taken ≡ false = lt-leb (r.start + r.len + (2 * longest + 5 * 65536)) taken (omega arith) in
+    take_while-cons (λ r. nat_le (r.start + r.len + (2 * longest + 5 * 65536)) taken) r rs
+    ∙ ap (λ b. cond b (r ∷ early longest taken rs) []) late_one
+
+no_frames : (wrap : List ℕ → List ℕ) → whole_frames wrap [] ≡ []
+unfolding whole_pieces
+no_frames wrap = refl
+
+-- nothing was read, so nothing had to be written
+pub wrote_none : (wrap : List ℕ → List ℕ) (longest taken : ℕ) (rs : List Record) (before now : Option (List ℕ)) → taken ≡ 0 → Keeps before now
+    → WroteEarly wrap longest taken rs before now
+wrote_none wrap longest taken rs before now none kept = record {
+  bytes = [];
+  written = appends-kept before before now [] (Appends-nil before) kept;
+  front = record { rest = []; joined = sym (ap (λ l. whole_frames wrap (output l) ++ []) (none-early longest taken rs none) ∙ ap (λ l. l ++ []) (no_frames wrap)) };
+}

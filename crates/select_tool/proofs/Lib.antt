@@ -6,3 +6,4 @@ pub mod AnswerLaws
 pub mod StreamLaws
 pub mod BoundLaws
 pub mod WindowSteps
+pub mod PrepareLaws

@@ -9,7 +9,8 @@ use Rattle.select_tool.specs.Codes.{code_text, message}
 use Rattle.select_tool.specs.Pieces.{pieces}
 use Rattle.select_tool.specs.Records.{Record, records}
 use Rattle.select_tool.specs.Answer.{processed, output, fault, total_len}
-use Rattle.select_tool.specs.Prepared.{Asked, refused, asks}
+use Rattle.select_tool.specs.declared.prepare.Asked.{Asked}
+use Rattle.select_tool.specs.declared.prepare.Asked.TheVariants.{Refused, Asks}
 
 -- an Error event, which names a code and a place
 abbrev pub error_event : Code → ℕ → Event
@@ -30,13 +31,10 @@ answer_events rs = map records_event (pieces (output rs)) ++ closing_events rs (
 
 -- the events of the reply to what a body asks of an object, under a record limit
 abbrev pub events : ℕ → List ℕ → Asked → List Event
-events longest object (refused code at) = error_event code at ∷ []
-events longest object (asks request) = answer_events (processed (records longest object))
+events longest object (Refused code at) = error_event code at ∷ []
+events longest object (Asks request) = answer_events (processed (records longest object))
 
 -- the frames of events, each in its wrapping, joined
 abbrev pub wrapped_frames : (List ℕ → List ℕ) → List Event → List ℕ
 wrapped_frames wrap es = flat_map (λ e. wrap (frame_of e)) es
 
--- the reply as it stands on an output
-abbrev pub reply : ℕ → List ℕ → Asked → List ℕ
-reply longest object asked = flat_map frame_of (events longest object asked)

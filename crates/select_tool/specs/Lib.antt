@@ -11,3 +11,4 @@ pub mod Events
 pub mod LineAnswers
 pub mod Jobs
 pub mod Streaming
+pub mod Replies

@@ -6,13 +6,10 @@ use Rattle.select_request.specs.declared.fault.RequestFault.{RequestFault}
 use Rattle.select_request.specs.declared.fault.RequestFaultCode.{RequestFaultCode}
 use Rattle.select_request.specs.declared.fault.RequestFaultCode.TheVariants as request_fault
 use Rattle.select_request.specs.declared.fault.ReadError.TheVariants.{Refused}
+use Rattle.select_tool.specs.declared.prepare.Asked.{Asked}
+use Rattle.select_tool.specs.declared.prepare.Asked.TheVariants as asked
 use Rattle.select_tool.specs.declared.code.Code.{Code}
 use Rattle.select_tool.specs.declared.code.Code.TheVariants.{MalformedXML, NotBuilt}
-
--- the request of a body, or the code and the place of its refusal
-pub data Asked : Type 0 where
-  refused : Code → ℕ → Asked
-  asks : SelectRequest → Asked
 
 -- the one expression that is built so far
 abbrev pub IsBuilt : SelectRequest → Type 0
@@ -40,5 +37,10 @@ pub record IsNotBuilt (body : List ℕ) (code : Code) (at : ℕ) : Type 0 where
 
 -- what a body asks: its own refusal comes first, then that of a request that isn't built
 abbrev pub Prepares : List ℕ → Asked → Type 0
-Prepares body (refused code at) = IsRefused body code at ⊎ IsNotBuilt body code at
-Prepares body (asks request) = Reads body (Ok request) × IsBuilt request
+Prepares body (asked.Refused code at) = IsRefused body code at ⊎ IsNotBuilt body code at
+Prepares body (asked.Asks request) = Reads body (Ok request) × IsBuilt request
+
+-- what a request that was read asks
+abbrev pub IsAskedOf : SelectRequest → Asked → Type 0
+IsAskedOf request (asked.Refused code at) = ¬ (IsBuilt request) × (code ≡ NotBuilt) × (at ≡ 0)
+IsAskedOf request (asked.Asks other) = (other ≡ request) × IsBuilt request

@@ -1,8 +1,9 @@
 //! Reading the request body from the input.
-ghost use Rattle.std.specs.Prelude.{◌≡◌, ◌<◌, ◌≤◌, length, take, IfOk, MatchResult};
+ghost use Rattle.std.specs.Prelude.{◌≡◌, ◌<◌, ◌≤◌, length, take, ⊤, IfOk, IfErr};
 ghost use Rattle.std.specs.Io.KnownBytes.{Consumes, IsAtEnd};
 ghost use Rattle.select_ports.specs.Causes.{HasCause, Rose};
 ghost use Rattle.select_tool.specs.Input.{IsReadFrom};
+ghost use Rattle.select_tool.specs.Replies.{CauseOf};
 
 use crate::trouble::Trouble;
 use select_ports::{Failed, Source};
@@ -12,6 +13,7 @@ use std::alloc::{AllocError, Global};
 /// Reads the body to its end, or to one byte past the longest that is taken.
 pub(crate) fn read_body<I: Source>(alloc: Global, input: &mut I) -> Result<Vec<u8>, Trouble>
     ensures body { IfOk result (λ body. IsReadFrom (I.left input.old) body.items) }
+    ensures cause { IfErr result (λ trouble. CauseOf trouble ⊥ (Rose (I.faults input.old) (I.faults input.new)) ⊥ ⊥ ⊤) }
 {
     let Ok(mut body) = room(alloc, LONGEST_BODY + 1) else {
         return Err(Trouble::OutOfMemory);

@@ -6,7 +6,9 @@ mod content;
 mod input;
 mod job;
 mod outcome;
+mod prepare;
 mod reply;
+mod select;
 mod trouble;
 mod words;
 
