@@ -80,9 +80,9 @@ begun_more rs r bytes row =
     let longer : length (output (rs ++ r ∷ [])) ≡ length (output rs) + length bytes = ap length out ∙ length-append (output rs) bytes in
     let p : remainder (remainder (output rs) ++ bytes) ≡ remainder (output (rs ++ r ∷ [])) = sym (remainder-append (output rs) bytes) ∙ ap remainder (sym out) in
     let s : counted (min (total_len rs) (2 ^ 128 - 1)) r.len ≡ min (total_len (rs ++ r ∷ [])) (2 ^ 128 - 1) =
-        capped (total_len rs) r.len (2 ^ 128 - 1) ∙ ap (λ n. min n (2 ^ 128 - 1)) (sym more) in
+    capped (total_len rs) r.len (2 ^ 128 - 1) ∙ ap (λ n. min n (2 ^ 128 - 1)) (sym more) in
     let t : counted (min (length (output rs)) (2 ^ 128 - 1)) (length bytes) ≡ min (length (output (rs ++ r ∷ []))) (2 ^ 128 - 1) =
-        capped (length (output rs)) (length bytes) (2 ^ 128 - 1) ∙ ap (λ n. min n (2 ^ 128 - 1)) (sym longer) in
+    capped (length (output rs)) (length bytes) (2 ^ 128 - 1) ∙ ap (λ n. min n (2 ^ 128 - 1)) (sym longer) in
     rw (p, s, t) refl
 
 -- the answer's events: its whole pieces, its last piece, and what closes it
@@ -129,7 +129,7 @@ answer_whole rs fine few short =
     ap answer_events (processed-fine rs fine) ∙ events_split rs
     ∙ ap (λ f. map records_event (whole_pieces (output rs)) ++ (map records_event (unless_empty (remainder (output rs))) ++ closing_events rs f)) fine
     ∙ ap (λ k. map records_event (whole_pieces (output rs)) ++ (map records_event (unless_empty (remainder (output rs))) ++ stats_of k ∷ end ∷ []))
-        (sym (counts_stand rs few short))
+    (sym (counts_stand rs few short))
 
 pub outcome_whole : (rs : List Record) → fault rs ≡ None → total_len rs < 2 ^ 128 → length (output rs) < 2 ^ 128
     → outcome_of (processed rs) ≡ Done (begun_counts (begun_after rs))
@@ -144,10 +144,10 @@ answer_begins rs ts fine =
     let later = map records_event (whole_pieces (remainder (output rs) ++ output (processed ts))) in
     let closing = map records_event (unless_empty (remainder (output all))) ++ closing_events all (fault all) in
     let whole : map records_event (whole_pieces (output all)) ≡ map records_event (whole_pieces (output rs)) ++ later =
-        ap (λ o. map records_event (whole_pieces o)) (output-append rs (processed ts))
-        ∙ ap (map records_event) (whole_pieces-append (output rs) (output (processed ts)))
-        ∙ map-append records_event (whole_pieces (output rs)) (whole_pieces (remainder (output rs) ++ output (processed ts))) in (
+    ap (λ o. map records_event (whole_pieces o)) (output-append rs (processed ts))
+    ∙ ap (map records_event) (whole_pieces-append (output rs) (output (processed ts)))
+    ∙ map-append records_event (whole_pieces (output rs)) (whole_pieces (remainder (output rs) ++ output (processed ts))) in (
       later ++ closing,
       ap answer_events (processed-append rs ts fine) ∙ events_split all ∙ ap (λ l. l ++ closing) whole
-      ∙ append_assoc (map records_event (whole_pieces (output rs))) later closing,
+          ∙ append_assoc (map records_event (whole_pieces (output rs))) later closing,
     )

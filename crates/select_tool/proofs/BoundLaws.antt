@@ -46,7 +46,7 @@ length-unmarked xs =
 length-content : (object : List ℕ) (p : ℕ) → length (content delimiter object p) ≤ length object
 length-content object p =
     let within : length (body delimiter object p) ≤ length object =
-        omega (arith, length-before delimiter (drop p object), length-drop p object) in
+    omega (arith, length-before delimiter (drop p object), length-drop p object) in
     let shorter = length-unmarked (body delimiter object p) in
     let P : Bool → Type 0 = λ b. length (if b then without_mark (body delimiter object p) else body delimiter object p) ≤ length object in
     elim (p == 0) as P [ true ↦ omega arith | false ↦ within ]
@@ -74,7 +74,7 @@ one-bound longest object p =
     let len = len-bound longest object p in
     let row = row-bound longest object p in
     let P : Bool → Type 0 = λ b. (total_len (map (record_at longest object) (if b then p ∷ [] else [])) ≤ length object)
-        × (length (output (map (record_at longest object) (if b then p ∷ [] else []))) ≤ length object + 1) in
+    × (length (output (map (record_at longest object) (if b then p ∷ [] else []))) ≤ length object + 1) in
     elim (is_record_at longest object p) as P [ true ↦ (omega arith, rw append-nil row) | false ↦ (omega arith, omega arith) ]
 
 -- so many starts have records of so many bytes
@@ -88,9 +88,9 @@ places-bound longest object (p ∷ places) =
     let later = records_at longest object places in
     let split : records_at longest object (p ∷ places) ≡ here ++ later = records_at-append longest object (p ∷ []) places in (
       subst (λ (rs : List Record). total_len rs ≤ suc (length places) * length object) (sym split)
-        (rw (sum_by-append, suc-mul) (omega (arith, one.0, more.0))),
+          (rw (sum_by-append, suc-mul) (omega (arith, one.0, more.0))),
       subst (λ (rs : List Record). length (output rs) ≤ suc (length places) * (length object + 1)) (sym split)
-        (rw (output-append, length-append, suc-mul) (omega (arith, one.1, more.1))),
+          (rw (output-append, length-append, suc-mul) (omega (arith, one.1, more.1))),
     )
 
 product-fits : (count len : ℕ) → count < 2 ^ 64 → len < 2 ^ 64 → (count * len < 2 ^ 128) × (count * (len + 1) < 2 ^ 128)
@@ -127,13 +127,14 @@ head_from longest object a zero = tt
 head_from longest object a (suc k) =
     let later = starts delimiter object (suc a) k in
     let rest : HeadFrom a (records_at longest object later) =
-        head-later a (suc a) (records_at longest object later) (omega arith) (head_from longest object (suc a) k) in
+    head-later a (suc a) (records_at longest object later) (omega arith) (head_from longest object (suc a) k) in
     let here : a ≤ (record_at longest object a).start = omega (arith, start-is longest object a) in
     let P : Bool → Type 0 = λ b. HeadFrom a (records_at longest object (if b then a ∷ later else later)) in
     let Q : Bool → Type 0 = λ b. HeadFrom a (map (record_at longest object) (if b then a ∷ filter (is_record_at longest object) later else filter (is_record_at longest object) later)) in
     elim (is_start delimiter object a) as P [
-      true ↦ elim (is_record_at longest object a) as Q [ true ↦ here | false ↦ rest ]
-    | false ↦ rest ]
+      | true ↦ elim (is_record_at longest object a) as Q [ true ↦ here | false ↦ rest ]
+      | false ↦ rest
+    ]
 
 -- a test that fails at the first of the later records
 FailsAt : (Record → Bool) → List Record → Type 0
@@ -177,17 +178,17 @@ wrote_early wrap longest taken object places v begun before mid s byte far =
     let later = records_at longest object (left object v) in
     let test : Record → Bool = λ r. nat_le (r.start + r.len + (2 * longest + 5 * 65536)) taken in
     let from : HeadFrom (place v) later =
-        subst (λ d. HeadFrom (place v) (records_at longest object (starts d object (place v) (v.last + 1 - place v)))) (sym byte)
-        (head_from longest object (place v) (v.last + 1 - place v)) in
+    subst (λ d. HeadFrom (place v) (records_at longest object (starts d object (place v) (v.last + 1 - place v)))) (sym byte)
+    (head_from longest object (place v) (v.last + 1 - place v)) in
     let all : processed (records_at longest object places) ≡ rs ++ processed later =
-        ap processed (ap (records_at longest object) s.split ∙ records_at-append longest object s.done (left object v)) ∙ processed-append rs later s.fine in
+    ap processed (ap (records_at longest object) s.split ∙ records_at-append longest object s.done (left object v)) ∙ processed-append rs later s.fine in
     let front = passing-front test rs (processed later) (late longest taken (place v) later far from) in
     let passing = take_while test (rs ++ processed later) in
     let out : output rs ≡ output passing ++ output front.0 = ap output front.1 ∙ output-append passing front.0 in
     let pieces : whole_frames wrap (output rs)
-        ≡ whole_frames wrap (output passing) ++ whole_frames wrap (remainder (output passing) ++ output front.0) =
-        ap (whole_frames wrap) out ∙ ap (λ l. wrapped_frames wrap (map records_event l)) (whole_pieces-append (output passing) (output front.0))
-        ∙ piece_frames-append wrap (whole_pieces (output passing)) (whole_pieces (remainder (output passing) ++ output front.0)) in
+    ≡ whole_frames wrap (output passing) ++ whole_frames wrap (remainder (output passing) ++ output front.0) =
+    ap (whole_frames wrap) out ∙ ap (λ l. wrapped_frames wrap (map records_event l)) (whole_pieces-append (output passing) (output front.0))
+    ∙ piece_frames-append wrap (whole_pieces (output passing)) (whole_pieces (remainder (output passing) ++ output front.0)) in
     subst (λ (l : List Record). WroteEarly wrap longest taken l before mid) (sym all)
     (record {
       bytes = whole_frames wrap (output rs);

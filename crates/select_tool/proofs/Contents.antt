@@ -52,8 +52,8 @@ length-places_from test bytes i zero within = refl
 length-places_from test bytes i (suc n) within =
     let here : i < length bytes = omega arith in
     let later : length (places_from test bytes (i + 1) n) ≡ count_by test (take n (drop (suc i) bytes)) =
-        subst (λ (j : ℕ). length (places_from test bytes (i + 1) n) ≡ count_by test (take n (drop j bytes))) (add-one i)
-        (length-places_from test bytes (i + 1) n (omega arith)) in
+    subst (λ (j : ℕ). length (places_from test bytes (i + 1) n) ≡ count_by test (take n (drop j bytes))) (add-one i)
+    (length-places_from test bytes (i + 1) n (omega arith)) in
     rw (drop-cons bytes i 0) (counted test (slice_index bytes i) (places_from test bytes (i + 1) n) (take n (drop (suc i) bytes)) i later)
 
 -- how many places pass a test

@@ -39,7 +39,7 @@ whole_pieces-append front back =
     let count : length (front ++ back) / piece ≡ m + n = ap (λ k. k / piece) (length-append front back) ∙ more_pieces piece (length front) (length back) (lit< tt) in
     let within : m * piece ≤ length front = omega (arith, div-add-mod' (length front) piece) in
     let later : length (drop (m * piece) front ++ back) / piece ≡ n =
-        ap (λ k. k / piece) (length-append (drop (m * piece) front) back ∙ ap (λ k. k + length back) (length-remainder front)) in
+    ap (λ k. k / piece) (length-append (drop (m * piece) front) back ∙ ap (λ k. k + length back) (length-remainder front)) in
     ap (λ k. cut piece k (front ++ back)) count
     ∙ cut-add piece m n (front ++ back)
     ∙ ap (λ l. l ++ cut piece n (drop (m * piece) (front ++ back))) (cut-append piece m front back within)
@@ -54,7 +54,7 @@ remainder-append front back =
     let count : length (front ++ back) / piece ≡ m + n = ap (λ k. k / piece) (length-append front back) ∙ more_pieces piece (length front) (length back) (lit< tt) in
     let within : m * piece ≤ length front = omega (arith, div-add-mod' (length front) piece) in
     let later : length (drop (m * piece) front ++ back) / piece ≡ n =
-        ap (λ k. k / piece) (length-append (drop (m * piece) front) back ∙ ap (λ k. k + length back) (length-remainder front)) in
+    ap (λ k. k / piece) (length-append (drop (m * piece) front) back ∙ ap (λ k. k + length back) (length-remainder front)) in
     ap (λ k. drop (k * piece) (front ++ back)) count
     ∙ ap (λ k. drop k (front ++ back)) (grind arith)
     ∙ sym (drop-drop (n * piece) (m * piece) (front ++ back))
@@ -94,19 +94,20 @@ completes_piece pending bytes left done room is whole within =
     let piece_bytes = take room (drop done bytes) in
     let full : length (left ++ piece_bytes) ≡ 65536 = simp (length-append, length-take, length-drop) (omega arith) in
     let joined : pending ++ take (done + room) bytes ≡ (pending ++ take done bytes) ++ piece_bytes =
-        ap (λ l. pending ++ l) (take-add done room bytes) ∙ sym (append_assoc pending (take done bytes) piece_bytes) in
-    ( ap whole_pieces joined ∙ whole_pieces-append (pending ++ take done bytes) piece_bytes
-      ∙ ap (λ l. whole_pieces (pending ++ take done bytes) ++ whole_pieces (l ++ piece_bytes)) (sym is)
-      ∙ ap (λ l. whole_pieces (pending ++ take done bytes) ++ l) (whole_pieces-one (left ++ piece_bytes) full)
-    , ap remainder joined ∙ remainder-append (pending ++ take done bytes) piece_bytes
-      ∙ ap (λ l. remainder (l ++ piece_bytes)) (sym is) ∙ remainder-one (left ++ piece_bytes) full )
+    ap (λ l. pending ++ l) (take-add done room bytes) ∙ sym (append_assoc pending (take done bytes) piece_bytes) in (
+      ap whole_pieces joined ∙ whole_pieces-append (pending ++ take done bytes) piece_bytes
+          ∙ ap (λ l. whole_pieces (pending ++ take done bytes) ++ whole_pieces (l ++ piece_bytes)) (sym is)
+          ∙ ap (λ l. whole_pieces (pending ++ take done bytes) ++ l) (whole_pieces-one (left ++ piece_bytes) full),
+      ap remainder joined ∙ remainder-append (pending ++ take done bytes) piece_bytes
+          ∙ ap (λ l. remainder (l ++ piece_bytes)) (sym is) ∙ remainder-one (left ++ piece_bytes) full,
+    )
 
 -- the pieces of a front are the first pieces of the whole
 pub pieces_go_on : (pending bytes : List ℕ) (done : ℕ)
     → whole_pieces (pending ++ bytes) ≡ whole_pieces (pending ++ take done bytes) ++ whole_pieces (remainder (pending ++ take done bytes) ++ drop done bytes)
 pieces_go_on pending bytes done =
     let joined : pending ++ bytes ≡ (pending ++ take done bytes) ++ drop done bytes =
-        ap (λ l. pending ++ l) (sym (take-append-drop done bytes)) ∙ sym (append_assoc pending (take done bytes) (drop done bytes)) in
+    ap (λ l. pending ++ l) (sym (take-append-drop done bytes)) ∙ sym (append_assoc pending (take done bytes) (drop done bytes)) in
     ap whole_pieces joined ∙ whole_pieces-append (pending ++ take done bytes) (drop done bytes)
 
 -- what is left completes no piece
@@ -116,12 +117,13 @@ pub ends_with_pending : (pending bytes left : List ℕ) (done : ℕ) → left �
 ends_with_pending pending bytes left done is short =
     let few : length (left ++ drop done bytes) < 65536 = rw length-append short in
     let joined : pending ++ bytes ≡ (pending ++ take done bytes) ++ drop done bytes =
-        ap (λ l. pending ++ l) (sym (take-append-drop done bytes)) ∙ sym (append_assoc pending (take done bytes) (drop done bytes)) in
-    ( pieces_go_on pending bytes done ∙ ap (λ l. whole_pieces (pending ++ take done bytes) ++ whole_pieces (l ++ drop done bytes)) (sym is)
-      ∙ ap (λ l. whole_pieces (pending ++ take done bytes) ++ l) (whole_pieces-short (left ++ drop done bytes) few)
-      ∙ append-nil (whole_pieces (pending ++ take done bytes))
-    , ap remainder joined ∙ remainder-append (pending ++ take done bytes) (drop done bytes)
-      ∙ ap (λ l. remainder (l ++ drop done bytes)) (sym is) ∙ remainder-short (left ++ drop done bytes) few )
+    ap (λ l. pending ++ l) (sym (take-append-drop done bytes)) ∙ sym (append_assoc pending (take done bytes) (drop done bytes)) in (
+      pieces_go_on pending bytes done ∙ ap (λ l. whole_pieces (pending ++ take done bytes) ++ whole_pieces (l ++ drop done bytes)) (sym is)
+          ∙ ap (λ l. whole_pieces (pending ++ take done bytes) ++ l) (whole_pieces-short (left ++ drop done bytes) few)
+          ∙ append-nil (whole_pieces (pending ++ take done bytes)),
+      ap remainder joined ∙ remainder-append (pending ++ take done bytes) (drop done bytes)
+          ∙ ap (λ l. remainder (l ++ drop done bytes)) (sym is) ∙ remainder-short (left ++ drop done bytes) few,
+    )
 
 -- two parts of an output, one after the other
 pub two_parts : (pending first second : List ℕ)

@@ -32,7 +32,7 @@ pub adds_piece : (wrap : List ℕ → List ℕ) (a b c : Option (List ℕ)) (xs 
     → Appends a b (piece_frames wrap xs) → Appends b c (wrap (frame_of (records bytes))) → Appends a c (piece_frames wrap ys)
 adds_piece wrap a b c xs ys bytes is first second =
     let joined : piece_frames wrap ys ≡ piece_frames wrap xs ++ wrap (frame_of (records bytes)) =
-        ap (piece_frames wrap) is ∙ piece_frames-append wrap xs (bytes ∷ []) ∙ ap (λ l. piece_frames wrap xs ++ l) (piece_frames-one wrap bytes) in
+    ap (piece_frames wrap) is ∙ piece_frames-append wrap xs (bytes ∷ []) ∙ ap (λ l. piece_frames wrap xs ++ l) (piece_frames-one wrap bytes) in
     subst (Appends a c) (sym joined) (Appends-trans a b c _ _ first second)
 
 -- a front of the frame of one more piece was added, and more pieces would have followed
@@ -41,9 +41,9 @@ pub adds_piece_front : (wrap : List ℕ → List ℕ) (a b c : Option (List ℕ)
     → AppendsFront a c (piece_frames wrap all)
 adds_piece_front wrap a b c xs all more bytes is first front =
     let joined : piece_frames wrap all ≡ piece_frames wrap xs ++ (wrap (frame_of (records bytes)) ++ piece_frames wrap more) =
-        ap (piece_frames wrap) is ∙ piece_frames-append wrap (xs ++ bytes ∷ []) more
-        ∙ ap (λ l. l ++ piece_frames wrap more) (piece_frames-append wrap xs (bytes ∷ []) ∙ ap (λ l. piece_frames wrap xs ++ l) (piece_frames-one wrap bytes))
-        ∙ append_assoc (piece_frames wrap xs) (wrap (frame_of (records bytes))) (piece_frames wrap more) in
+    ap (piece_frames wrap) is ∙ piece_frames-append wrap (xs ++ bytes ∷ []) more
+    ∙ ap (λ l. l ++ piece_frames wrap more) (piece_frames-append wrap xs (bytes ∷ []) ∙ ap (λ l. piece_frames wrap xs ++ l) (piece_frames-one wrap bytes))
+    ∙ append_assoc (piece_frames wrap xs) (wrap (frame_of (records bytes))) (piece_frames wrap more) in
     subst (AppendsFront a c) (sym joined) (appends-front-after a b c _ _ (piece_frames wrap more) first front)
 
 same_part : (bytes : List ℕ) (done room : ℕ) → take (done + room - done) (drop done bytes) ≡ take room (drop done bytes)
@@ -67,7 +67,7 @@ pub added_then : (wrap : List ℕ → List ℕ) (a b c : Option (List ℕ)) (es 
     → Appends a b (wrapped_frames wrap es) → Appends b c (wrap (frame_of e)) → Appends a c (wrapped_frames wrap (es ++ e ∷ []))
 added_then wrap a b c es e first second =
     let joined : wrapped_frames wrap (es ++ e ∷ []) ≡ wrapped_frames wrap es ++ wrap (frame_of e) =
-        wrapped_frames-append wrap es (e ∷ []) ∙ ap (λ l. wrapped_frames wrap es ++ l) (append-nil (wrap (frame_of e))) in
+    wrapped_frames-append wrap es (e ∷ []) ∙ ap (λ l. wrapped_frames wrap es ++ l) (append-nil (wrap (frame_of e))) in
     subst (Appends a c) (sym joined) (Appends-trans a b c _ _ first second)
 
 -- a front of the frame of one more event was added
@@ -75,7 +75,7 @@ pub added_then_front : (wrap : List ℕ → List ℕ) (a b c : Option (List ℕ)
     → Appends a b (wrapped_frames wrap es) → AppendsFront b c (wrap (frame_of e)) → AppendsFront a c (wrapped_frames wrap (es ++ e ∷ more))
 added_then_front wrap a b c es e more first front =
     let joined : wrapped_frames wrap (es ++ e ∷ more) ≡ wrapped_frames wrap es ++ (wrap (frame_of e) ++ wrapped_frames wrap more) =
-        wrapped_frames-append wrap es (e ∷ more) ∙ ap (λ l. wrapped_frames wrap es ++ l) (flat_map-cons (λ e. wrap (frame_of e)) e more) in
+    wrapped_frames-append wrap es (e ∷ more) ∙ ap (λ l. wrapped_frames wrap es ++ l) (flat_map-cons (λ e. wrap (frame_of e)) e more) in
     subst (AppendsFront a c) (sym joined) (appends-front-after a b c _ _ (wrapped_frames wrap more) first front)
 
 -- a front of the second of two more events

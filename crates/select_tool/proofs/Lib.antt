@@ -7,3 +7,4 @@ pub mod StreamLaws
 pub mod BoundLaws
 pub mod WindowSteps
 pub mod PrepareLaws
+pub mod ReplyLaws

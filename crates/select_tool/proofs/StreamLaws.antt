@@ -154,7 +154,7 @@ stream_on wrap longest object places v w begun (yields bytes len) before mid now
     let r = meets.0 in
     let is : records_at longest object (s.done ++ p ∷ []) ≡ rs ++ r ∷ [] = records_at-append longest object s.done (p ∷ []) ∙ ap (λ l. rs ++ l) meets.1 in
     let stands : goes_on begun bytes len ≡ begun_after (rs ++ r ∷ []) =
-        ap (λ (b : Begun). goes_on b bytes len) s.stands ∙ ap (λ n. goes_on (begun_after rs) bytes n) (sym meets.3) ∙ begun_more rs r bytes meets.2 in
+    ap (λ (b : Begun). goes_on b bytes len) s.stands ∙ ap (λ n. goes_on (begun_after rs) bytes n) (sym meets.3) ∙ begun_more rs r bytes meets.2 in
     streamed_at wrap longest object places w (goes_on begun bytes len) before now (s.done ++ p ∷ []) (rs ++ r ∷ []) is holds
     (passed_one places s.done p (left object v) (left object w) s.split here) (fine_more rs r bytes s.fine meets.2) stands
     (more_frames wrap before mid now rs r bytes begun meets.2 s.stands s.written added)
@@ -172,7 +172,7 @@ records_split longest object places done p rest later r split is one =
 pub turn_begins : (wrap : List ℕ → List ℕ) (longest : ℕ) (object places : List ℕ) (v w : View) (begun : Begun) (turn : Turn) (before mid : Option (List ℕ)) (p : ℕ)
     → (s : Streamed wrap longest object places v begun before mid) → left object v ≡ p ∷ left object w → Meets turn (records_at longest object (p ∷ []))
     → (more : List Event) × (answer_events (processed (records_at longest object places))
-        ≡ map records_event (whole_pieces (output (records_at longest object s.done))) ++ (turn_events begun turn ++ more))
+    ≡ map records_event (whole_pieces (output (records_at longest object s.done))) ++ (turn_events begun turn ++ more))
 turn_begins wrap longest object places v w begun passes before mid p s here meets =
     let rs = records_at longest object s.done in
     let begins = answer_begins rs (records_at longest object (left object v)) s.fine in
@@ -183,16 +183,16 @@ turn_begins wrap longest object places v w begun (yields bytes len) before mid p
     let later = records_at longest object (left object w) in
     let begins = answer_begins (rs ++ r ∷ []) later (fine_more rs r bytes s.fine meets.2) in
     let pieces : map records_event (whole_pieces (output (rs ++ r ∷ [])))
-        ≡ map records_event (whole_pieces (output rs)) ++ map records_event (whole_pieces (begun.pending ++ bytes)) =
-        ap (λ l. map records_event (whole_pieces l)) (output_more rs r bytes meets.2)
-        ∙ ap (map records_event) (whole_pieces-append (output rs) bytes)
-        ∙ map-append records_event (whole_pieces (output rs)) (whole_pieces (remainder (output rs) ++ bytes))
-        ∙ ap (λ (b : Begun). map records_event (whole_pieces (output rs)) ++ map records_event (whole_pieces (b.pending ++ bytes))) (sym s.stands) in (
+    ≡ map records_event (whole_pieces (output rs)) ++ map records_event (whole_pieces (begun.pending ++ bytes)) =
+    ap (λ l. map records_event (whole_pieces l)) (output_more rs r bytes meets.2)
+    ∙ ap (map records_event) (whole_pieces-append (output rs) bytes)
+    ∙ map-append records_event (whole_pieces (output rs)) (whole_pieces (remainder (output rs) ++ bytes))
+    ∙ ap (λ (b : Begun). map records_event (whole_pieces (output rs)) ++ map records_event (whole_pieces (b.pending ++ bytes))) (sym s.stands) in (
       begins.0,
       ap (λ l. answer_events (processed l))
-        (records_split longest object places s.done p (left object v) (left object w) r s.split here meets.1 ∙ sym (append_assoc rs (r ∷ []) later))
-      ∙ begins.1 ∙ ap (λ l. l ++ begins.0) pieces
-      ∙ append_assoc (map records_event (whole_pieces (output rs))) (map records_event (whole_pieces (begun.pending ++ bytes))) begins.0,
+          (records_split longest object places s.done p (left object v) (left object w) r s.split here meets.1 ∙ sym (append_assoc rs (r ∷ []) later))
+          ∙ begins.1 ∙ ap (λ l. l ++ begins.0) pieces
+          ∙ append_assoc (map records_event (whole_pieces (output rs))) (map records_event (whole_pieces (begun.pending ++ bytes))) begins.0,
     )
 turn_begins wrap longest object places v w begun (faults code at) before mid p s here meets =
     let rs = records_at longest object s.done in
@@ -200,10 +200,10 @@ turn_begins wrap longest object places v w begun (faults code at) before mid p s
     let later = records_at longest object (left object w) in (
       [],
       ap (λ l. answer_events (processed l)) (records_split longest object places s.done p (left object v) (left object w) r s.split here meets.1)
-      ∙ answer_faulty rs r code later s.fine meets.2
-      ∙ ap (λ (b : Begun). map records_event (whole_pieces (output rs)) ++ fault_events b code r.start) (sym s.stands)
-      ∙ ap (λ n. map records_event (whole_pieces (output rs)) ++ fault_events begun code n) meets.3
-      ∙ ap (λ l. map records_event (whole_pieces (output rs)) ++ l) (sym (append-nil (fault_events begun code at))),
+          ∙ answer_faulty rs r code later s.fine meets.2
+          ∙ ap (λ (b : Begun). map records_event (whole_pieces (output rs)) ++ fault_events b code r.start) (sym s.stands)
+          ∙ ap (λ n. map records_event (whole_pieces (output rs)) ++ fault_events begun code n) meets.3
+          ∙ ap (λ l. map records_event (whole_pieces (output rs)) ++ l) (sym (append-nil (fault_events begun code at))),
     )
 turn_begins wrap longest object places v w begun ends before mid p s here meets = absurd meets
 
@@ -212,7 +212,7 @@ pub faulty_ends : (wrap : List ℕ → List ℕ) (longest : ℕ) (object places 
     → (s : Streamed wrap longest object places v begun before mid) → left object v ≡ p ∷ left object w
     → Meets (faults code at) (records_at longest object (p ∷ []))
     → (answer_events (processed (records_at longest object places))
-        ≡ map records_event (whole_pieces (output (records_at longest object s.done))) ++ fault_events begun code at)
+    ≡ map records_event (whole_pieces (output (records_at longest object s.done))) ++ fault_events begun code at)
     × (outcome_of (processed (records_at longest object places)) ≡ Faulted code at)
 faulty_ends wrap longest object places v w begun code at before mid p s here meets =
     let rs = records_at longest object s.done in
@@ -220,8 +220,8 @@ faulty_ends wrap longest object places v w begun code at before mid p s here mee
     let later = records_at longest object (left object w) in
     let all = records_split longest object places s.done p (left object v) (left object w) r s.split here meets.1 in (
       ap (λ l. answer_events (processed l)) all ∙ answer_faulty rs r code later s.fine meets.2
-      ∙ ap (λ (b : Begun). map records_event (whole_pieces (output rs)) ++ fault_events b code r.start) (sym s.stands)
-      ∙ ap (λ n. map records_event (whole_pieces (output rs)) ++ fault_events begun code n) meets.3,
+          ∙ ap (λ (b : Begun). map records_event (whole_pieces (output rs)) ++ fault_events b code r.start) (sym s.stands)
+          ∙ ap (λ n. map records_event (whole_pieces (output rs)) ++ fault_events begun code n) meets.3,
       ap (λ l. outcome_of (processed l)) all ∙ outcome_faulty rs r code later s.fine meets.2 ∙ ap (λ n. Faulted code n) meets.3,
     )
 
@@ -235,7 +235,7 @@ whole_ends wrap longest object places v begun before mid s none few short =
     let rs = records_at longest object s.done in
     let all : records_at longest object places ≡ rs = ap (records_at longest object) (s.split ∙ ap (λ l. s.done ++ l) none ∙ append-nil s.done) in (
       ap (λ l. answer_events (processed l)) all ∙ answer_whole rs s.fine few short
-      ∙ ap (λ (b : Begun). map records_event (whole_pieces (output rs)) ++ end_events b) (sym s.stands),
+          ∙ ap (λ (b : Begun). map records_event (whole_pieces (output rs)) ++ end_events b) (sym s.stands),
       ap (λ l. outcome_of (processed l)) all ∙ outcome_whole rs s.fine few short ∙ ap (λ (b : Begun). Done (begun_counts b)) (sym s.stands),
     )
 
@@ -246,8 +246,8 @@ stream_front wrap longest object places v begun before mid s =
     let rs = records_at longest object s.done in
     let begins = answer_begins rs (records_at longest object (left object v)) s.fine in
     let is : answer_frames wrap (processed (records_at longest object places)) ≡ whole_frames wrap (output rs) ++ wrapped_frames wrap begins.0 =
-        ap (λ l. wrapped_frames wrap (answer_events (processed l))) (ap (records_at longest object) s.split ∙ records_at-append longest object s.done (left object v))
-        ∙ ap (wrapped_frames wrap) begins.1 ∙ wrapped_frames-append wrap (map records_event (whole_pieces (output rs))) begins.0 in
+    ap (λ l. wrapped_frames wrap (answer_events (processed l))) (ap (records_at longest object) s.split ∙ records_at-append longest object s.done (left object v))
+    ∙ ap (wrapped_frames wrap) begins.1 ∙ wrapped_frames-append wrap (map records_event (whole_pieces (output rs))) begins.0 in
     subst (AppendsFront before mid) (sym is)
     (record { front = whole_frames wrap (output rs); is_front = record { rest = wrapped_frames wrap begins.0; joined = refl }; appended = s.written })
 
@@ -259,8 +259,8 @@ pub events_front : (wrap : List ℕ → List ℕ) (longest : ℕ) (object places
 events_front wrap longest object places v begun before mid now es more s is front =
     let rs = records_at longest object s.done in
     let joined : answer_frames wrap (processed (records_at longest object places)) ≡ whole_frames wrap (output rs) ++ (wrapped_frames wrap es ++ wrapped_frames wrap more) =
-        ap (wrapped_frames wrap) is ∙ wrapped_frames-append wrap (map records_event (whole_pieces (output rs))) (es ++ more)
-        ∙ ap (λ l. whole_frames wrap (output rs) ++ l) (wrapped_frames-append wrap es more) in
+    ap (wrapped_frames wrap) is ∙ wrapped_frames-append wrap (map records_event (whole_pieces (output rs))) (es ++ more)
+    ∙ ap (λ l. whole_frames wrap (output rs) ++ l) (wrapped_frames-append wrap es more) in
     subst (AppendsFront before now) (sym joined) (appends-front-after before mid now _ _ (wrapped_frames wrap more) s.written front)
 
 -- the last events of the whole reply were written
@@ -271,25 +271,25 @@ pub events_whole : (wrap : List ℕ → List ℕ) (longest : ℕ) (object places
 events_whole wrap longest object places v begun before mid now es s is added =
     let rs = records_at longest object s.done in
     let joined : answer_frames wrap (processed (records_at longest object places)) ≡ whole_frames wrap (output rs) ++ wrapped_frames wrap es =
-        ap (wrapped_frames wrap) is ∙ wrapped_frames-append wrap (map records_event (whole_pieces (output rs))) es in
+    ap (wrapped_frames wrap) is ∙ wrapped_frames-append wrap (map records_event (whole_pieces (output rs))) es in
     subst (Appends before now) (sym joined) (Appends-trans before mid now _ _ s.written added)
 
 -- the lines at p and after it are still to come, and the line is the object's
 meets_at : (longest : ℕ) (object : List ℕ) (v w : View) (line : Line) → v.longest ≡ longest → v.delimiter ≡ delimiter → IsNextLine object v w line
     → IsSomeLine line → (p : ℕ) × (left object v ≡ p ∷ left object w) × Meets (turn_of line) (records_at longest object (p ∷ []))
 meets_at longest object v w (At start bytes whole) l d next some = (
-      start,
-      next.0,
-      subst (λ n. Meets (turn_of (At start bytes whole)) (records_at n object (start ∷ []))) l
+  start,
+  next.0,
+  subst (λ n. Meets (turn_of (At start bytes whole)) (records_at n object (start ∷ []))) l
       (line_meets v.longest object start (At start bytes whole)
-        (refl, subst (λ e. IsLent v.longest e object start bytes.now whole) d next.1)),
-    )
+      (refl, subst (λ e. IsLent v.longest e object start bytes.now whole) d next.1)),
+)
 meets_at longest object v w (TooLong start) l d next some = (
-      start,
-      next.0,
-      subst (λ n. Meets (turn_of (TooLong start)) (records_at n object (start ∷ []))) l
+  start,
+  next.0,
+  subst (λ n. Meets (turn_of (TooLong start)) (records_at n object (start ∷ []))) l
       (line_meets v.longest object start (TooLong start) (refl, subst (λ e. v.longest < length (body e object start)) d next.1)),
-    )
+)
 meets_at longest object v w End l d next some = absurd some
 
 some_line : (line : Line) → (turn_of line ≡ ends → ⊥) → IsSomeLine line

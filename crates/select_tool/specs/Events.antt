@@ -37,4 +37,3 @@ events longest object (Asks request) = answer_events (processed (records longest
 -- the frames of events, each in its wrapping, joined
 abbrev pub wrapped_frames : (List ℕ → List ℕ) → List Event → List ℕ
 wrapped_frames wrap es = flat_map (λ e. wrap (frame_of e)) es
-

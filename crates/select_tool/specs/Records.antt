@@ -50,8 +50,8 @@ record_at longest object p = record {
   start = p;
   len = whole_len delimiter object p;
   row =
-    if is_too_long longest object p then Err OverMaxRecordSize
-    else unless_faulty (content delimiter object p) (content_fault (content delimiter object p));
+      if is_too_long longest object p then Err OverMaxRecordSize
+      else unless_faulty (content delimiter object p) (content_fault (content delimiter object p));
 }
 
 -- the line at a start is a record: a line that is too long is one, whatever it begins with

@@ -1,7 +1,7 @@
 -- What a command answers to a body about an object.
-use Rattle.std.specs.Prelude.{◌≡◌, ◌⊎◌, ℕ, ◌≤◌, ◌<◌, List, [], Option, None, Some, IfSome, String}
+use Rattle.std.specs.Prelude.{◌≡◌, ◌⊎◌, ℕ, ◌≤◌, ◌<◌, List, [], Option, None, Some, IfSome, IsSome, ◌==◌, if◌then◌else◌}
 use Rattle.std.specs.Io.KnownBytes.{Appends, Keeps}
-use Rattle.select_ports.specs.Causes.{RoseBy}
+use Rattle.select_ports.specs.Causes.{Rose, RoseBy}
 use Rattle.select_ports.specs.Streams.{AppendsFront}
 use Rattle.select_ports.specs.Stored.{Objects, Opened, LacksName}
 use Rattle.select_tool.specs.declared.prepare.Asked.{Asked}
@@ -15,7 +15,7 @@ use Rattle.select_tool.specs.Records.{records}
 use Rattle.select_tool.specs.Answer.{processed}
 use Rattle.select_tool.specs.Events.{events, wrapped_frames}
 use Rattle.select_tool.specs.Jobs.{outcome_of}
-use Rattle.select_tool.specs.Statuses.{line, line_of}
+use Rattle.select_tool.specs.Statuses.{line_of}
 
 -- the record limit of the program, in bytes
 abbrev pub longest_record : ℕ
@@ -56,6 +56,12 @@ abbrev pub status_of_outcome : Outcome → ℕ
 status_of_outcome (Done counts) = 0
 status_of_outcome (Faulted code at) = 1
 
+-- the whole reply was written, and the status tells how it ended
+pub record IsReplied (object body : List ℕ) (status : ℕ) (before now : Option (List ℕ)) : Type 0 where
+  pub outcome : Outcome
+  pub replied : Replied object body outcome before now
+  pub told : status ≡ status_of_outcome outcome
+
 -- no object of the name was found: none is open, and the count of names that weren't found rose
 pub record Misses (held : Option Objects) (name : List ℕ) (current : Opened) (absent_before absent_now : ℕ) : Type 0 where
   pub lacks : LacksName held name
@@ -70,3 +76,27 @@ CauseOf InputFault missing input output store nothing = input × nothing
 CauseOf OutputFault missing input output store nothing = output
 CauseOf StoreFault missing input output store nothing = store
 CauseOf OutOfMemory missing input output store nothing = nothing
+
+-- the exit status is one of the table's
+abbrev pub IsStatus : ℕ → Type 0
+IsStatus status = (status < 6) ⊎ (status ≡ 7)
+
+-- the line on the error output at a status: none where the command was done
+abbrev pub line_of_status : Option (List ℕ) → ℕ → List ℕ
+line_of_status None status = line_of BadWords
+line_of_status (Some name) status =
+    if status == 2 then line_of NoSuchKey
+    else if status == 3 then line_of InputFault
+    else if status == 4 then line_of OutputFault
+    else if status == 5 then line_of StoreFault
+    else if status == 7 then line_of OutOfMemory
+    else []
+
+-- where a count of faults didn't rise, these bytes were written
+abbrev pub WritesUnlessFaulty : ℕ → ℕ → Option (List ℕ) → Option (List ℕ) → List ℕ → Type 0
+WritesUnlessFaulty faults_before faults_now before now bytes = ¬ (Rose faults_before faults_now) → Appends before now bytes
+
+-- the store is told to hold an object of the name
+abbrev pub IsHeld : Option Objects → List ℕ → Type 0
+IsHeld None name = ⊥
+IsHeld (Some objects) name = IsSome (objects name)

@@ -7,7 +7,7 @@ use itoa::Buffer;
 
 /// Why a request is refused or a record is faulty. The reply names it by the variant's name.
 #[derive(Clone, Copy, Debug, PartialEq, Eq)]
-pub enum Code {
+pub(crate) enum Code {
     /// The body of the request is empty or too long.
     MalformedXML,
     /// The request, its expression or a quote in a record is of a kind that isn't built yet.
@@ -22,7 +22,7 @@ pub enum Code {
 
 impl Code {
     /// The code as the reply writes it.
-    pub fn text(&self) -> &'static str
+    pub(crate) fn text(&self) -> &'static str
         ensures text { result.now ≡ code_text self.now }
         ensures short { length result.now ≤ 19 }
     {

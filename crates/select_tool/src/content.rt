@@ -4,7 +4,7 @@ ghost use Rattle.std.specs.List.{list_any, slice_split};
 ghost use Rattle.std.specs.Str.{is_utf8};
 ghost use Rattle.select_tool.specs.Records.{is_passed_over, content_fault, is_comma, is_quote};
 
-use crate::Code;
+use crate::code::Code;
 use memchr::{memchr, memchr_iter};
 
 /// The most fields of a record.

@@ -92,10 +92,7 @@ fn answer_lines<S: Store, K: FrameSink>(
 }
 
 // Answers an object that has no byte.
-fn answer_none<K: FrameSink>(
-    reply: &mut ReplyWriter,
-    out: &mut K,
-) -> Result<Outcome, EngineError>
+fn answer_none<K: FrameSink>(reply: &mut ReplyWriter, out: &mut K) -> Result<Outcome, EngineError>
     requires fresh { reply.old ≡ record { pending = []; scanned = 0; returned = 0 } }
     ensures reply { Answers K.wrap [] (K.written out.old) (K.written out.new) result }
     ensures cause { IfErr result (HasEngineCause 0 0 (K.faults out.old) (K.faults out.new) (K.written out.old) (K.written out.new)) }

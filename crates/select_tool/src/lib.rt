@@ -2,6 +2,7 @@
 #![tactic(auto)]
 
 mod code;
+mod commands;
 mod content;
 mod input;
 mod job;
@@ -12,4 +13,4 @@ mod select;
 mod trouble;
 mod words;
 
-pub use code::Code;
+pub use commands::run;

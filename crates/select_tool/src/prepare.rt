@@ -2,7 +2,7 @@
 ghost use Rattle.std.specs.Prelude.{◌≡◌, IfOk, MatchBool};
 ghost use Rattle.select_tool.specs.Prepared.{Prepares, IsAskedOf, IsBuilt, code_of};
 
-use crate::Code;
+use crate::code::Code;
 use select_request::{ReadError, RequestFaultCode, SelectRequest};
 use std::alloc::{AllocError, Global};
 

@@ -6,8 +6,7 @@ ghost use Rattle.event_frame.specs.Event.{records, frame_of};
 ghost use Rattle.select_tool.specs.Pieces.{whole_pieces, remainder};
 ghost use Rattle.select_tool.specs.Events.{wrapped_frames, error_event};
 
-use crate::Code;
-use crate::code::message;
+use crate::code::{Code, message};
 use crate::content::{content_fault, is_passed_over};
 use crate::outcome::Outcome;
 use event_frame::{Counts, FrameWriter};

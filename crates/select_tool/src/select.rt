@@ -12,7 +12,7 @@ ghost use Rattle.select_tool.specs.Jobs.{WroteEarly};
 ghost use Rattle.select_tool.specs.Events.{wrapped_frames, error_event};
 ghost use Rattle.select_tool.specs.Replies.{IfTold, Replied, IsCutShort, Misses, CauseOf, reply_frames, reply_outcome, longest_record};
 
-use crate::Code;
+use crate::code::Code;
 use crate::input::read_body;
 use crate::job::run_job;
 use crate::outcome::{EngineError, Outcome};
@@ -104,12 +104,7 @@ fn write_reply<S: Store, K: FrameSink>(
 }
 
 // Writes the one Error event of a refusal.
-fn refuse<K: FrameSink>(
-    alloc: Global,
-    code: Code,
-    at: u64,
-    out: &mut K,
-) -> Result<Outcome, Trouble>
+fn refuse<K: FrameSink>(alloc: Global, code: Code, at: u64, out: &mut K) -> Result<Outcome, Trouble>
     ensures reply { MatchResult result (λ outcome. Appends (K.written out.old) (K.written out.new) (wrapped_frames K.wrap (error_event code at ∷ [])) × (outcome ≡ Outcome.Faulted code at)) (λ _. AppendsFront (K.written out.old) (K.written out.new) (wrapped_frames K.wrap (error_event code at ∷ []))) }
     ensures cause { IfErr result (λ trouble. CauseOf trouble ⊥ ⊥ (Rose (K.faults out.old) (K.faults out.new)) ⊥ (Keeps (K.written out.old) (K.written out.new))) }
     ensures rest { K.rest out.new ≡ K.rest out.old }

@@ -23,9 +23,9 @@ lines-init g c = record {
   out_faults = omega arith;
   rest = refl;
   told = λ object tells holds.
-  subst (λ (b : Begun). Streamed g.K.FrameSink.wrap c.args.window.now.longest object (left object c.args.window.now) c.args.window.now b
-    (g.K.FrameSink.written c.args.out.now) (g.K.FrameSink.written c.args.out.now)) (sym c.requires.fresh)
-  (stream_begins g.K.FrameSink.wrap c.args.window.now.longest object c.args.window.now (g.K.FrameSink.written c.args.out.now) holds);
+      subst (λ (b : Begun). Streamed g.K.FrameSink.wrap c.args.window.now.longest object (left object c.args.window.now) c.args.window.now b
+      (g.K.FrameSink.written c.args.out.now) (g.K.FrameSink.written c.args.out.now)) (sym c.requires.fresh)
+      (stream_begins g.K.FrameSink.wrap c.args.window.now.longest object c.args.window.now (g.K.FrameSink.written c.args.out.now) holds);
 }
 
 pub returns-in-Err-clause-reply : goal.returns-in-Err-clause-reply
@@ -63,12 +63,12 @@ lines-preserved g c =
       out_faults = omega (arith, i.out_faults, c.in-Ok-None.ensures.faults.kept);
       rest = c.in-Ok-None.ensures.rest ∙ i.rest;
       told = λ object tells holds.
-      let s = i.told object tells holds in
-      let next = given _ c.lines.window c.next.follows.lender-at-none c.next.result c.in-Ok.line _ _ object t c.in-Ok.is _ i.current tells s.holds in
-      subst (λ (b : Begun). Streamed g.K.FrameSink.wrap c.args.window.now.longest object (left object c.args.window.now) c.next.follows.lender-at-none b
-        (g.K.FrameSink.written c.args.out.now) (g.K.FrameSink.written c.answer.new.out)) (sym (c.in-Ok-None.ensures.after c.in-Ok-None.field-0-is))
-      (line_on g.K.FrameSink.wrap c.args.window.now.longest object (left object c.args.window.now) c.lines.window c.next.follows.lender-at-none c.lines.reply c.in-Ok.line
-        _ _ _ s i.rules.longest (i.rules.delimiter ∙ c.requires.delimiter) next (sym c.in-Ok-None.ensures.outcome ∙ c.in-Ok-None.field-0-is) c.in-Ok-None.ensures.bytes);
+          let s = i.told object tells holds in
+          let next = given _ c.lines.window c.next.follows.lender-at-none c.next.result c.in-Ok.line _ _ object t c.in-Ok.is _ i.current tells s.holds in
+          subst (λ (b : Begun). Streamed g.K.FrameSink.wrap c.args.window.now.longest object (left object c.args.window.now) c.next.follows.lender-at-none b
+          (g.K.FrameSink.written c.args.out.now) (g.K.FrameSink.written c.answer.new.out)) (sym (c.in-Ok-None.ensures.after c.in-Ok-None.field-0-is))
+          (line_on g.K.FrameSink.wrap c.args.window.now.longest object (left object c.args.window.now) c.lines.window c.next.follows.lender-at-none c.lines.reply c.in-Ok.line
+          _ _ _ s i.rules.longest (i.rules.delimiter ∙ c.requires.delimiter) next (sym c.in-Ok-None.ensures.outcome ∙ c.in-Ok-None.field-0-is) c.in-Ok-None.ensures.bytes);
     }
 
 pub returns-in-Ok-Some-clause-reply : goal.returns-in-Ok-Some-clause-reply

@@ -19,7 +19,7 @@ invariant-lines g l = record {
   out_faults : g.K.FrameSink.faults l.initial.out ≤ g.K.FrameSink.faults l.out;
   rest : g.K.FrameSink.rest l.out ≡ g.K.FrameSink.rest l.initial.out;
   told : (object : List ℕ) → Tells (g.S.Store.current l.initial.store) object → Holds object l.initial.window
-    → Streamed g.K.FrameSink.wrap l.initial.window.longest object (left object l.initial.window) l.window l.reply
+      → Streamed g.K.FrameSink.wrap l.initial.window.longest object (left object l.initial.window) l.window l.reply
       (g.K.FrameSink.written l.initial.out) (g.K.FrameSink.written l.out);
 }
 

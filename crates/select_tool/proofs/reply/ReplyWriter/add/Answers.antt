@@ -17,7 +17,7 @@ pieces-init g c =
       room = c.room-room.ensures.whole;
       pending = sym begun.0;
       written = subst (λ (l : List (List ℕ)). Appends (g.K.FrameSink.written c.args.out.now) (g.K.FrameSink.written c.args.out.now) (piece_frames g.K.FrameSink.wrap l))
-        (sym begun.1) (Appends-nil (g.K.FrameSink.written c.args.out.now));
+          (sym begun.1) (Appends-nil (g.K.FrameSink.written c.args.out.now));
       scanned = refl;
       returned = refl;
       faults = omega arith;
@@ -34,10 +34,10 @@ returns-in_err-complete-clause-bytes g c =
     let step = completes_piece pending bytes v.self.pending v.done v.room v.invariant.pending v.invariant.room within in
     let all = pieces_go_on pending bytes (v.done + v.room) in
     rw p.1 (adds_piece_front g.K.FrameSink.wrap _ _ _ (whole_pieces (pending ++ take v.done bytes)) (whole_pieces (pending ++ bytes)) _
-        (v.self.pending ++ take v.room (drop v.done bytes))
-        (all ∙ ap (λ (l : List (List ℕ)). l ++ whole_pieces (remainder (pending ++ take (v.done + v.room) bytes) ++ drop (v.done + v.room) bytes)) step.0)
-        v.invariant.written
-        (part_front g.K.FrameSink.wrap _ _ v.self.pending bytes v.done v.room c.in_err-complete.ensures.bytes))
+    (v.self.pending ++ take v.room (drop v.done bytes))
+    (all ∙ ap (λ (l : List (List ℕ)). l ++ whole_pieces (remainder (pending ++ take (v.done + v.room) bytes) ++ drop (v.done + v.room) bytes)) step.0)
+    v.invariant.written
+    (part_front g.K.FrameSink.wrap _ _ v.self.pending bytes v.done v.room c.in_err-complete.ensures.bytes))
 
 pub pieces-preserved : goal.pieces-preserved
 pieces-preserved g c =
@@ -53,7 +53,7 @@ pieces-preserved g c =
       room = rw empty refl;
       pending = empty ∙ sym step.1;
       written = adds_piece g.K.FrameSink.wrap _ _ _ (whole_pieces (pending ++ take v.done bytes)) _ (v.self.pending ++ take v.room (drop v.done bytes))
-        step.0 v.invariant.written (part_added g.K.FrameSink.wrap _ _ v.self.pending bytes v.done v.room c.in_ok-complete.ensures.bytes);
+          step.0 v.invariant.written (part_added g.K.FrameSink.wrap _ _ v.self.pending bytes v.done v.room c.in_ok-complete.ensures.bytes);
       scanned = c.in_ok-complete.ensures.scanned ∙ v.invariant.scanned;
       returned = c.in_ok-complete.ensures.returned ∙ v.invariant.returned;
       faults = omega (arith, v.invariant.faults, c.in_ok-complete.ensures.faults.kept);
@@ -64,17 +64,17 @@ pub returns-clause-bytes : goal.returns-clause-bytes
 returns-clause-bytes g c =
     let v = c.pieces in
     let short : length v.self.pending + length (drop v.done c.args.bytes.now) < 65536 =
-        rw length-drop (omega (arith, c.pieces-test.false, v.invariant.room)) in
+    rw length-drop (omega (arith, c.pieces-test.false, v.invariant.room)) in
     let last = ends_with_pending c.args.self.now.pending c.args.bytes.now v.self.pending v.done v.invariant.pending short in
     subst (λ (l : List (List ℕ)). Appends (g.K.FrameSink.written c.args.out.now) (g.K.FrameSink.written v.out) (piece_frames g.K.FrameSink.wrap l))
-        (sym last.0) v.invariant.written
+    (sym last.0) v.invariant.written
 
 pub returns-clause-pending : goal.returns-clause-pending
 returns-clause-pending g c =
     let v = c.pieces in
     let short : length v.self.pending + length (drop v.done c.args.bytes.now) < 65536 =
-        rw length-drop (omega (arith, c.pieces-test.false, v.invariant.room)) in
+    rw length-drop (omega (arith, c.pieces-test.false, v.invariant.room)) in
     let last = ends_with_pending c.args.self.now.pending c.args.bytes.now v.self.pending v.done v.invariant.pending short in
     let rest : take (length c.args.bytes.now - v.done) (drop v.done c.args.bytes.now) ≡ drop v.done c.args.bytes.now =
-        take_all _ _ (rw length-drop (omega arith)) in
+    take_all _ _ (rw length-drop (omega arith)) in
     c.keep.ensures.pending ∙ ap (λ l. v.self.pending ++ l) rest ∙ sym last.1

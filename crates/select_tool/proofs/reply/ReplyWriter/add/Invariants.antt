@@ -11,7 +11,7 @@ invariant-pieces g l = record {
   room : l.room + length l.self.pending ≡ 65536;
   pending : l.self.pending ≡ remainder (l.initial.self.pending ++ take l.done l.bytes);
   written : Appends (g.K.FrameSink.written l.initial.out) (g.K.FrameSink.written l.out)
-    (piece_frames g.K.FrameSink.wrap (whole_pieces (l.initial.self.pending ++ take l.done l.bytes)));
+      (piece_frames g.K.FrameSink.wrap (whole_pieces (l.initial.self.pending ++ take l.done l.bytes)));
   scanned : l.self.scanned ≡ l.initial.self.scanned;
   returned : l.self.returned ≡ l.initial.self.returned;
   faults : g.K.FrameSink.faults l.initial.out ≤ g.K.FrameSink.faults l.out;

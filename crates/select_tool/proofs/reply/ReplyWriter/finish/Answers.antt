@@ -13,16 +13,16 @@ pub returns-in_err-stats-clause-bytes : goal.returns-in_err-stats-clause-bytes
 returns-in_err-stats-clause-bytes g c =
     let p = err_from_is_err_and c.from_residual-in_err-stats.result c.from_residual-in_err-stats.ensures.1 in
     rw p.1 (subst (λ (k : Counts). AppendsFront (g.K.FrameSink.written c.args.out.now) (g.K.FrameSink.written c.stats.new.out)
-          (wrapped_frames g.K.FrameSink.wrap (last_events c.args.self.now ++ stats_of k ∷ end ∷ [])))
-        c.counts-counts.ensures
-        (added_then_front g.K.FrameSink.wrap _ _ _ (last_events c.args.self.now) (stats_of c.counts-counts.result) (end ∷ [])
-        c.in_ok-flush.ensures.bytes c.in_err-stats.ensures.bytes))
+    (wrapped_frames g.K.FrameSink.wrap (last_events c.args.self.now ++ stats_of k ∷ end ∷ [])))
+    c.counts-counts.ensures
+    (added_then_front g.K.FrameSink.wrap _ _ _ (last_events c.args.self.now) (stats_of c.counts-counts.result) (end ∷ [])
+    c.in_ok-flush.ensures.bytes c.in_err-stats.ensures.bytes))
 
 pub returns-in_err-end-clause-bytes : goal.returns-in_err-end-clause-bytes
 returns-in_err-end-clause-bytes g c =
     let p = err_from_is_err_and c.from_residual-in_err-end.result c.from_residual-in_err-end.ensures.1 in
     rw p.1 (subst (λ (k : Counts). AppendsFront (g.K.FrameSink.written c.args.out.now) (g.K.FrameSink.written c.end.new.out)
-          (wrapped_frames g.K.FrameSink.wrap (last_events c.args.self.now ++ stats_of k ∷ end ∷ [])))
-        c.counts-counts.ensures
-        (added_two_then_front g.K.FrameSink.wrap _ _ _ _ (last_events c.args.self.now) (stats_of c.counts-counts.result) end
-        c.in_ok-flush.ensures.bytes c.in_ok-stats.ensures.bytes c.in_err-end.ensures.bytes))
+    (wrapped_frames g.K.FrameSink.wrap (last_events c.args.self.now ++ stats_of k ∷ end ∷ [])))
+    c.counts-counts.ensures
+    (added_two_then_front g.K.FrameSink.wrap _ _ _ _ (last_events c.args.self.now) (stats_of c.counts-counts.result) end
+    c.in_ok-flush.ensures.bytes c.in_ok-stats.ensures.bytes c.in_err-end.ensures.bytes))

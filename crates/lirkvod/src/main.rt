@@ -1,0 +1,60 @@
+//! The program `lirkvod`: the commands over the files of a folder and the standard streams.
+#![tactic(auto)]
+
+use select_ports::{FileStore, StdSink, StdSource};
+use select_tool::run;
+use std::process::ExitCode;
+use std::{env, io};
+
+const USAGE: &str = "usage: lirkvod FOLDER ADDRESS COMMAND ..
+       lirkvod --help
+       lirkvod --version
+
+FOLDER holds the objects, and ADDRESS is - for a command that needs no socket.
+
+commands:
+  select NAME   reads a request body (the XML of SelectObjectContent) from standard
+                input, and writes the reply about the object NAME to standard output
+
+exit status: 0 done, 1 done with an error event, 2 bad words or no such object,
+3 input fault, 4 output fault, 5 store fault, 7 out of memory
+";
+
+const VERSION: &str = "lirkvod 0.1.0\n";
+
+fn main(rt: HostRuntime) -> io::Result<ExitCode> {
+    let Ok(args) = env::args(&rt) else {
+        return bad_words(&rt);
+    };
+    let words: Vec<String> = args.skip(1).collect(rt.alloc())?;
+    match words.as_slice() {
+        [word] if word.as_str() == "--help" => print(&rt, USAGE),
+        [word] if word.as_str() == "--version" => print(&rt, VERSION),
+        [folder, _address, command @ ..] => {
+            let mut store = FileStore::new(&rt, rt.alloc(), folder.as_str());
+            let mut input = StdSource::new(rt.stdin());
+            let mut out = StdSink::new(rt.stdout());
+            let mut err = StdSink::new(rt.stderr());
+            let status = run(
+                rt.alloc(),
+                command,
+                &mut store,
+                &mut input,
+                &mut out,
+                &mut err,
+            );
+            Ok(ExitCode::from(status))
+        }
+        _ => bad_words(&rt),
+    }
+}
+
+fn print(rt: &impl Print, text: &str) -> io::Result<ExitCode> {
+    rt.print(text)?;
+    Ok(ExitCode::from(0))
+}
+
+fn bad_words(rt: &impl Eprint) -> io::Result<ExitCode> {
+    rt.eprintln("bad words")?;
+    Ok(ExitCode::from(2))
+}
