@@ -1,3 +1,6 @@
+pub mod Alternatives
 pub mod Clear
 pub mod Lists
+pub mod Right
 pub mod Sequences
+pub mod Terminals

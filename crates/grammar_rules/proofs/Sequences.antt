@@ -45,7 +45,7 @@ nil_left (u ∷ l) r e = cc
 
 module _ {T K A B : Type 0} (G : Rule T K A) (H : A → Rule T K B) (s t : Sight T) (g : Clear G s) (h : (a : A) → Clear (H a) t) (off : Apart s t) where
   -- a whole text of the first rule doesn't go on with what begins the second
-  clash : (a : A) (l : List T) (m : Last K) (u : T) (x : List T) → G.Spells a l → G.Front m (l ++ u ∷ x) → t.first u ≡ true → ⊥
+  pub clash : (a : A) (l : List T) (m : Last K) (u : T) (x : List T) → G.Spells a l → G.Front m (l ++ u ∷ x) → t.first u ≡ true → ⊥
   clash a l m u x w e f = apart (s.more u) (t.first u) (off u) (g.goes_on a l m u x w e) f
 
   -- a front of the second rule begins as its lookahead says
