@@ -1,6 +1,6 @@
 -- What a reader with one symbol of lookahead answers, and the readers that mirror the rules.
 use Rattle.std.specs.Prelude.{◌≡◌, ℕ, zero, suc, Bool, true, false, List, [], ◌∷◌, ◌++◌, length, Option, Some, None}
-use Rattle.grammar_rules.specs.Rules.{Verdict, takes, faults, refuses, cons}
+use Rattle.grammar_rules.specs.Rules.{Verdict, takes, faults, refuses, without}
 
 -- a value and what is left after its text; or a failure at what is left: the first symbol there has
 -- this fault, or at None it is refused or missing
@@ -39,6 +39,22 @@ abbrev pub chosen : {T K A : Type 0} → Bool → Outcome T K A → Outcome T K 
 chosen true o q = o
 chosen false o q = q
 
+-- the outcome of one after the other, for the pair of the values
+abbrev pub read_pair : {T K A B : Type 0} → (List T → Outcome T K A) → (List T → Outcome T K B) → List T → Outcome T K (A × B)
+read_pair read next ts = and_then (read ts) (λ a left. read_made (λ b. (a, b)) (next left))
+
+-- the outcome of one after the other, for the list of the first one's value and the second one's
+abbrev pub read_headed : {T K A : Type 0} → (List T → Outcome T K A) → (List T → Outcome T K (List A)) → List T → Outcome T K (List A)
+read_headed read next ts = and_then (read ts) (λ a left. read_made (λ rest. a ∷ rest) (next left))
+
+-- the outcome of an alternative of two, of which the first begins with a symbol that passes the test
+abbrev pub read_either : {T K A : Type 0} → (T → Bool) → (List T → Outcome T K A) → (List T → Outcome T K A) → List T → Outcome T K A
+read_either test read other ts = chosen (starts test ts) (read ts) (other ts)
+
+-- the outcome of the alternative of the part and nothing
+abbrev pub read_optional : {T K A : Type 0} → (T → Bool) → (List T → Outcome T K A) → List T → Outcome T K (Option A)
+read_optional test read ts = chosen (starts test ts) (read_made Some (read ts)) (found None ts)
+
 -- up to n times, while a symbol passes the test
 abbrev pub read_bounded : {T K A : Type 0} → ℕ → (T → Bool) → (List T → Outcome T K A) → (List T → Outcome T K (List A)) → List T → Outcome T K (List A)
 read_bounded zero test read end ts = end ts
@@ -50,3 +66,31 @@ read_bounded (suc n) test read end ts =
 -- as often as a symbol passes the test
 abbrev pub read_many : {T K A : Type 0} → (T → Bool) → (List T → Outcome T K A) → List T → Outcome T K (List A)
 read_many test read ts = read_bounded (suc (length ts)) test read (λ left. found [] left) ts
+
+-- whether the symbol begins a member that is free
+abbrev pub is_free : {I : Type 0} → (I → Bool) → Option I → Bool
+is_free free None = false
+is_free free (Some i) = free i
+
+-- the outcome of the member that the symbol begins, where it is free
+abbrev pub read_named : {T K A I : Type 0} → (I → List T → Outcome T K A) → (I → Bool) → Option I → List T → Outcome T K (I × A)
+read_named read free None ts = failed None ts
+read_named read free (Some i) ts = chosen (free i) (read_made (λ a. (i, a)) (read i ts)) (failed None ts)
+
+-- the outcome of one of the free members
+abbrev pub read_member : {T K A I : Type 0} → (T → Option I) → (I → List T → Outcome T K A) → (I → Bool) → List T → Outcome T K (I × A)
+read_member which read free [] = failed None []
+read_member which read free (t ∷ ts) = read_named read free (which t) (t ∷ ts)
+
+-- up to n of the free members, while a symbol begins one
+abbrev pub read_some_members : {T K A I : Type 0} → (I → I → Bool) → (T → Option I) → (I → List T → Outcome T K A) → ℕ → (I → Bool) → List T → Outcome T K (List (I × A))
+read_some_members same which read zero free ts = found [] ts
+read_some_members same which read (suc n) free ts =
+    chosen (starts (λ t. is_free free (which t)) ts)
+      (and_then (read_member which read free ts)
+        (λ m left. read_made (λ rest. m ∷ rest) (read_some_members same which read n (without same m.0 free) left)))
+      (found [] ts)
+
+-- the free members in any order, each at most once, while a symbol begins one
+abbrev pub read_members : {T K A I : Type 0} → (I → I → Bool) → (T → Option I) → (I → List T → Outcome T K A) → (I → Bool) → List T → Outcome T K (List (I × A))
+read_members same which read free ts = read_some_members same which read (suc (length ts)) free ts

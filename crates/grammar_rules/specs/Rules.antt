@@ -110,14 +110,14 @@ either G H = alternatives (one_of_two G H)
 abbrev pub optional : {T K A : Type 0} → Rule T K A → Rule T K (Option A)
 optional G = either (made Some G) (nothing None)
 
--- a list by its head and its tail
-abbrev pub cons : {A : Type 0} → A × List A → List A
-cons p = p.0 ∷ p.1
+-- one after the other, for the list of the first one's value and the second one's
+abbrev pub headed : {T K A : Type 0} → Rule T K A → Rule T K (List A) → Rule T K (List A)
+headed G H = sequence G (λ a. made (λ rest. a ∷ rest) H)
 
 -- up to n times G, where what may follow the n-th is `end`, and nothing may follow fewer
 abbrev pub bounded : {T K A : Type 0} → ℕ → Rule T K A → Rule T K (List A) → Rule T K (List A)
 bounded zero G end = end
-bounded (suc n) G end = either (made cons (G & bounded n G end)) (nothing [])
+bounded (suc n) G end = either (headed G (bounded n G end)) (nothing [])
 
 -- a repetition: any number of times G
 abbrev pub many : {T K A : Type 0} → Rule T K A → Rule T K (List A)
@@ -143,7 +143,11 @@ without same i free j = free j && not (same i j)
 
 -- up to n of the free members, in any order and each at most once, for their names and values as
 -- they stand
-abbrev pub members : {T K A I : Type 0} → (I → I → Bool) → (I → Rule T K A) → ℕ → (I → Bool) → Rule T K (List (I × A))
-members same G zero free = nothing []
-members same G (suc n) free =
-    either (sequence (member G free) (λ m. made (λ ms. m ∷ ms) (members same G n (without same m.0 free)))) (nothing [])
+abbrev pub some_members : {T K A I : Type 0} → (I → I → Bool) → (I → Rule T K A) → ℕ → (I → Bool) → Rule T K (List (I × A))
+some_members same G zero free = nothing []
+some_members same G (suc n) free =
+    either (sequence (member G free) (λ m. made (λ rest. m ∷ rest) (some_members same G n (without same m.0 free)))) (nothing [])
+
+-- the free members in any order, each at most once
+abbrev pub members : {T K A I : Type 0} → (I → I → Bool) → (I → Rule T K A) → (I → Bool) → Rule T K (List (I × A))
+members same G free = alternatives (λ n. some_members same G n free)
