@@ -1,5 +1,7 @@
 pub mod Alternatives
+pub mod Choices
 pub mod Clear
+pub mod Depths
 pub mod Lists
 pub mod Reading
 pub mod Right
