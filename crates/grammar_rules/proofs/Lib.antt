@@ -2,8 +2,10 @@ pub mod Alternatives
 pub mod Choices
 pub mod Clear
 pub mod Depths
+pub mod Families
 pub mod Lists
 pub mod Reading
+pub mod Repetitions
 pub mod Right
 pub mod Sequences
 pub mod Terminals
