@@ -4,6 +4,7 @@ pub mod Clear
 pub mod Depths
 pub mod Families
 pub mod Lists
+pub mod Many
 pub mod Reading
 pub mod Repetitions
 pub mod Right

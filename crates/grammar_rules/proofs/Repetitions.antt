@@ -21,7 +21,8 @@ repeat_sight s e = record {
   more = λ x. (s.first x || s.more x) || (e.first x || e.more x);
 }
 
-abbrev wide_sight : {T : Type 0} → Sight T → Sight T → Sight T
+-- the same, also where n is 0
+abbrev pub wide_sight : {T : Type 0} → Sight T → Sight T → Sight T
 wide_sight s e = record {
   first = λ x. s.first x || e.first x;
   null = true;
@@ -84,7 +85,7 @@ module _ {T K A : Type 0} (G : Rule T K A) (s : Sight T) (end : Rule T K (List A
         (clear-either (headed G (bounded n G end)) (nothing []) (sequence_sight s (wide_sight s e)) nothing_sight
           (headed_clear n w) (clear-nothing []) (λ x. and_false _) (rw wants))
 
-  clear_wide : (n : ℕ) → Clear (bounded n G end) (wide_sight s e)
+  pub clear_wide : (n : ℕ) → Clear (bounded n G end) (wide_sight s e)
   clear_wide zero =
       clear-wider end e (wide_sight s e)
         (record {
