@@ -1,10 +1,12 @@
 pub mod Alternatives
+pub mod AnyOrder
 pub mod Choices
 pub mod Clear
 pub mod Depths
 pub mod Families
 pub mod Lists
 pub mod Many
+pub mod Members
 pub mod Reading
 pub mod Repetitions
 pub mod Right
