@@ -124,3 +124,65 @@ module _ {T K A I : Type 0} (same : I → I → Bool) (G : I → Rule T K A) (ea
             (λ m left. read_made (λ rest. m ∷ rest) (read_some_members same which read n (without same m.0 free) left))
             (λ m left. right-made (λ rest. m ∷ rest) (some_members same G n (without same m.0 free)) left (read_some_members same which read n (without same m.0 free) left) (right_some n (without same m.0 free) left)))
           (right-nothing [] ts)
+
+module _ {T K A I : Type 0} (same : I → I → Bool) (which : T → Option I) (read : I → List T → Outcome T K A) (less : (free : I → Bool) → Shrinks (read_member which read free)) where
+  stable_step : (n m : ℕ) (free : I → Bool) (ts : List T) (o : Outcome T K (I × A)) → read_member which read free ts ≡ o
+    → ((f : I → Bool) (left : List T) → length left < length ts → read_some_members same which read n f left ≡ read_some_members same which read m f left)
+    → and_then o (λ a left. read_made (λ rest. a ∷ rest) (read_some_members same which read n (without same a.0 free) left)) ≡ and_then o (λ a left. read_made (λ rest. a ∷ rest) (read_some_members same which read m (without same a.0 free) left))
+  stable_step n m free ts (found a left) e rec = ap (read_made (λ rest. a ∷ rest)) (rec (without same a.0 free) left (less free ts a left e))
+  stable_step n m free ts (failed k left) e rec = refl
+
+  -- beyond the symbols that are there the bound doesn't matter
+  pub stable_members : (n m : ℕ) (free : I → Bool) (ts : List T) → length ts < n → length ts < m → read_some_members same which read n free ts ≡ read_some_members same which read m free ts
+  stable_members zero m free ts p q = absurd (omega arith)
+  stable_members (suc n) zero free ts p q = absurd (omega arith)
+  stable_members (suc n) (suc m) free ts p q =
+      ap (λ o. chosen (starts (λ t. is_free free (which t)) ts) o (found [] ts))
+        (stable_step n m free ts (read_member which read free ts) refl (λ f left l. stable_members n m f left (omega arith) (omega arith)))
+
+  unrolled_step : (free : I → Bool) (ts : List T) (o : Outcome T K (I × A)) → read_member which read free ts ≡ o
+    → and_then o (λ a left. read_made (λ rest. a ∷ rest) (read_some_members same which read (length ts) (without same a.0 free) left)) ≡ and_then o (λ a left. read_made (λ rest. a ∷ rest) (read_members same which read (without same a.0 free) left))
+  unrolled_step free ts (found a left) e =
+      ap (read_made (λ rest. a ∷ rest)) (stable_members (length ts) (suc (length left)) (without same a.0 free) left (less free ts a left e) (omega arith))
+  unrolled_step free ts (failed k left) e = refl
+
+  -- the members are nothing, or one and then the others
+  pub read_members-unrolled : (free : I → Bool) (ts : List T) → read_members same which read free ts ≡ chosen (starts (λ t. is_free free (which t)) ts) (and_then (read_member which read free ts) (λ a left. read_made (λ rest. a ∷ rest) (read_members same which read (without same a.0 free) left))) (found [] ts)
+  read_members-unrolled free ts = ap (λ o. chosen (starts (λ t. is_free free (which t)) ts) o (found [] ts)) (unrolled_step free ts (read_member which read free ts) refl)
+
+  joined_members : (xs ys : List (I × A)) (o : Outcome T K (List (I × A))) → read_made (λ rest. xs ++ rest) (read_made (λ rest. ys ++ rest) o) ≡ read_made (λ rest. (xs ++ ys) ++ rest) o
+  joined_members xs ys (found zs left) = rw append_assoc
+  joined_members xs ys (failed k left) = refl
+
+  -- the steps of a loop that has read `so_far`: one more, the end, and a failure
+  pub members_step : (free : I → Bool) (so_far : List (I × A)) (ts : List T) (a : I × A) (left : List T) → starts (λ t. is_free free (which t)) ts ≡ true → read_member which read free ts ≡ found a left
+    → read_made (λ rest. so_far ++ rest) (read_members same which read free ts) ≡ read_made (λ rest. (so_far ++ a ∷ []) ++ rest) (read_members same which read (without same a.0 free) left)
+  members_step free so_far ts a left e f =
+      rw (read_members-unrolled free ts, e, f) (joined_members so_far (a ∷ []) (read_members same which read (without same a.0 free) left))
+
+  pub members_stop : (free : I → Bool) (so_far : List (I × A)) (ts : List T) → starts (λ t. is_free free (which t)) ts ≡ false → read_made (λ rest. so_far ++ rest) (read_members same which read free ts) ≡ found so_far ts
+  members_stop free so_far ts e = rw (read_members-unrolled free ts, e, append-nil)
+
+  pub members_fail : (free : I → Bool) (so_far : List (I × A)) (ts : List T) (k : Option K) (left : List T) → starts (λ t. is_free free (which t)) ts ≡ true → read_member which read free ts ≡ failed k left
+    → read_made (λ rest. so_far ++ rest) (read_members same which read free ts) ≡ failed k left
+  members_fail free so_far ts k left e f = rw (read_members-unrolled free ts, e, f)
+
+module _ {T K A I : Type 0} (same : I → I → Bool) (G : I → Rule T K A) (each : I → Sight T) (which : T → Option I) (tail : T → Bool) (named : Named each which tail) (read : I → List T → Outcome T K A) (g : (i : I) → Reads (G i) (each i) (read i)) where
+  less_member : (free : I → Bool) → Shrinks (read_member which read free)
+  less_member = shrinks-member G each which tail named (λ i. (g i).clear) read (λ i. (g i).exact) (λ i. (g i).right)
+
+  right_members : (free : I → Bool) (ts : List T) → Right (members same G free) ts (read_members same which read free ts)
+  right_members free ts =
+      right-growing (λ n. some_members same G n free) (λ n. members_grow same G n free) ts (suc (length ts)) (read_members same which read free ts)
+        (λ k. rw (stable_members same which read less_member (suc (length ts)) (suc (length ts) + k) free ts (omega arith) (omega arith))
+          (right_some same G each which tail named (λ i. (g i).clear) read (λ i. (g i).exact) (λ i. (g i).right) (suc (length ts) + k) free ts))
+
+  pub reads-members : (free : I → Bool) → Reads (members same G free) (members_sight which tail free) (read_members same which read free)
+  reads-members free = record {
+    clear = clear-members same G each which tail named (λ i. (g i).clear) free;
+    exact = λ t e.
+      let f = exact-member G each which tail named (λ i. (g i).clear) read (λ i. (g i).exact) (λ i. (g i).right) free t e in
+      (f.0, inr (1, inr (true, inl f.1)));
+    empty = λ e. ([], (0, (refl, refl)));
+    right = right_members free;
+  }

@@ -1,12 +1,15 @@
 pub mod Alternatives
+pub mod Answering
 pub mod AnyOrder
 pub mod Choices
 pub mod Clear
+pub mod Completions
 pub mod Depths
 pub mod Families
 pub mod Lists
 pub mod Many
 pub mod Members
+pub mod OneAnswer
 pub mod Reading
 pub mod Repetitions
 pub mod Right

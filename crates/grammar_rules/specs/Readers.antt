@@ -1,5 +1,6 @@
 -- What a reader with one symbol of lookahead answers, and the readers that mirror the rules.
-use Rattle.std.specs.Prelude.{◌≡◌, ℕ, zero, suc, Bool, true, false, List, [], ◌∷◌, ◌++◌, length, Option, Some, None}
+use Rattle.std.specs.Prelude.{◌≡◌, ℕ, zero, suc, Bool, true, false, List, [], ◌∷◌, ◌++◌, length, ◌-◌, Option, Some, None}
+use Rattle.grammar_rules.specs.Places.{Answer, value, refusal}
 use Rattle.grammar_rules.specs.Rules.{Verdict, takes, faults, refuses, without}
 
 -- a value and what is left after its text; or a failure at what is left: the first symbol there has
@@ -94,3 +95,9 @@ read_some_members same which read (suc n) free ts =
 -- the free members in any order, each at most once, while a symbol begins one
 abbrev pub read_members : {T K A I : Type 0} → (I → I → Bool) → (T → Option I) → (I → List T → Outcome T K A) → (I → Bool) → List T → Outcome T K (List (I × A))
 read_members same which read free ts = read_some_members same which read (suc (length ts)) free ts
+
+-- the answer on a text of this many symbols: one more symbol behind the value's text is refused
+abbrev pub answer : {T K A : Type 0} → ℕ → Outcome T K A → Answer K A
+answer size (found a []) = value a
+answer size (found a (t ∷ left)) = refusal None (size - length (t ∷ left))
+answer size (failed e left) = refusal e (size - length left)

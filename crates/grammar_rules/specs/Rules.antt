@@ -151,3 +151,20 @@ some_members same G (suc n) free =
 -- the free members in any order, each at most once
 abbrev pub members : {T K A I : Type 0} → (I → I → Bool) → (I → Rule T K A) → (I → Bool) → Rule T K (List (I × A))
 members same G free = alternatives (λ n. some_members same G n free)
+
+-- the first rule's texts are texts of the second, and each of its fronts begins a text of the second:
+-- where a rule completes itself, a front is exactly what begins a text
+pub record Completes {T K A : Type 0} (G H : Rule T K A) : Type 0 where
+  pub spells : (a : A) (ts : List T) → G.Spells a ts → H.Spells a ts
+  pub completed : (ts : List T) → G.Front fits ts → (rest : List T) × (a : A) × H.Spells a (ts ++ rest)
+
+-- ts is, up to some symbol, a front but for that symbol, in which a fault is found
+abbrev pub MeetsFault : {T K A : Type 0} → Rule T K A → List T → Type 0
+MeetsFault {T = T} {K = K} G ts = (pre : List T) × (t : T) × (rest : List T) × (k : K) × (ts ≡ pre ++ t ∷ rest) × G.Front (faulty k) (pre ++ t ∷ [])
+
+-- the first rule is the second with limits: it says what the second says, but behind a fault of its own
+pub record Limits {T K A : Type 0} (G H : Rule T K A) : Type 0 where
+  pub spells : (a : A) (ts : List T) → G.Spells a ts → H.Spells a ts
+  pub front : (ts : List T) → G.Front fits ts → H.Front fits ts
+  pub spelled : (a : A) (ts : List T) → H.Spells a ts → G.Spells a ts ⊎ MeetsFault G ts
+  pub fronted : (ts : List T) → H.Front fits ts → G.Front fits ts ⊎ MeetsFault G ts
