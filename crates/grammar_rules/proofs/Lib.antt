@@ -6,6 +6,7 @@ pub mod Clear
 pub mod Completions
 pub mod Depths
 pub mod Families
+pub mod Limited
 pub mod Lists
 pub mod Many
 pub mod Members

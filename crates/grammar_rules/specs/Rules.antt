@@ -159,12 +159,17 @@ pub record Completes {T K A : Type 0} (G H : Rule T K A) : Type 0 where
   pub completed : (ts : List T) → G.Front fits ts → (rest : List T) × (a : A) × H.Spells a (ts ++ rest)
 
 -- ts is, up to some symbol, a front but for that symbol, in which a fault is found
-abbrev pub MeetsFault : {T K A : Type 0} → Rule T K A → List T → Type 0
-MeetsFault {T = T} {K = K} G ts = (pre : List T) × (t : T) × (rest : List T) × (k : K) × (ts ≡ pre ++ t ∷ rest) × G.Front (faulty k) (pre ++ t ∷ [])
+pub record MeetsFault {T K A : Type 0} (G : Rule T K A) (ts : List T) : Type 0 where
+  pub pre : List T
+  pub at : T
+  pub rest : List T
+  pub kind : K
+  pub is : ts ≡ pre ++ at ∷ rest
+  pub front : G.Front (faulty kind) (pre ++ at ∷ [])
 
 -- the first rule is the second with limits: it says what the second says, but behind a fault of its own
 pub record Limits {T K A : Type 0} (G H : Rule T K A) : Type 0 where
   pub spells : (a : A) (ts : List T) → G.Spells a ts → H.Spells a ts
   pub front : (ts : List T) → G.Front fits ts → H.Front fits ts
   pub spelled : (a : A) (ts : List T) → H.Spells a ts → G.Spells a ts ⊎ MeetsFault G ts
-  pub fronted : (ts : List T) → H.Front fits ts → G.Front fits ts ⊎ MeetsFault G ts
+  pub fronted : (last : Last K) (ts : List T) → H.Front last ts → G.Front last ts ⊎ MeetsFault G ts
