@@ -7,6 +7,7 @@ pub mod Completions
 pub mod Depths
 pub mod Families
 pub mod Limited
+pub mod LimitedAnswers
 pub mod Lists
 pub mod Many
 pub mod Members
