@@ -5,6 +5,7 @@ pub mod Choices
 pub mod Clear
 pub mod Completions
 pub mod Depths
+pub mod ExpressionProofs
 pub mod Families
 pub mod Limited
 pub mod LimitedAnswers

@@ -1,12 +1,12 @@
 -- A rule, its lookahead and a reader that is right for it, and how these are put together.
-use Rattle.std.proofs.Common.{◌≡◌, ◌||◌, ◌&&◌, ◌⊎◌, Bool, true, false, List, [], ◌∷◌, ◌++◌, Option, Some, None, refl, sym, ap, ◌∙◌, subst, inl, inr, append_assoc, append-nil}
-use Rattle.grammar_rules.specs.Rules.{Rule, Last, fits, faulty, Joined, Verdict, takes, faults, refuses, terminal, nothing, made, sequence, alternatives, either, one_of_two, optional, headed, ◌&◌}
-use Rattle.grammar_rules.specs.Readers.{Outcome, found, failed, and_then, read_made, read_symbol, read_terminal, starts, chosen, read_pair, read_headed, read_either, read_optional}
+use Rattle.std.proofs.Common.{◌≡◌, ◌||◌, ◌&&◌, ◌⊎◌, Bool, true, false, List, [], ◌∷◌, ◌++◌, drop, if◌then◌else◌, Option, Some, None, refl, sym, ap, ◌∙◌, subst, inl, inr, append_assoc, append-nil}
+use Rattle.grammar_rules.specs.Rules.{Rule, Last, fits, faulty, Joined, Verdict, takes, faults, refuses, terminal, nothing, made, sequence, alternatives, either, one_of_two, optional, headed, ◌&◌, token, fault, preceded_by, followed_by}
+use Rattle.grammar_rules.specs.Readers.{Outcome, found, failed, and_then, read_made, read_symbol, read_terminal, starts, chosen, is_seen, read_fault, read_past, closed_by, read_before, read_pair, read_headed, read_either, read_optional}
 use Rattle.grammar_rules.proofs.Lists.{or_left, or_right, and_both, apart}
 use Rattle.grammar_rules.proofs.Clear.{Closed, Sight, Clear, fault-nil}
 use Rattle.grammar_rules.proofs.Alternatives.{cons_not_nil, Within, Parted, clear-alternatives, same_member}
 use Rattle.grammar_rules.proofs.Sequences.{Apart, sequence_sight, clear-sequence}
-use Rattle.grammar_rules.proofs.Terminals.{is_seen, terminal_sight, clear-terminal, nothing_sight, clear-nothing, clear-made}
+use Rattle.grammar_rules.proofs.Terminals.{terminal_sight, clear-terminal, nothing_sight, clear-nothing, clear-made, Sees, clear-wider}
 use Rattle.grammar_rules.proofs.Right.{Stops, FoundAt, RefusedAt, FaultAt, Right, right-nothing, right-terminal, right-made, right-sequence}
 
 -- each symbol that passes the test is a front or a fault
@@ -123,3 +123,153 @@ module _ {T K A I : Type 0} (G : I → Rule T K A) (closed : (i : I) → Closed 
     unspelled = λ a v. unspelled_all w.pre left w.is w.stops w.unspelled v.0 a v.1;
   }
   right-alternative (failed (Some k) left) w = record { pre = w.pre; at = w.at; behind = w.behind; is = w.is; stands = w.stands; front = inr (i, w.front) }
+
+-- another reader that answers the same
+pub reads_as : {T K A : Type 0} (G : Rule T K A) (s : Sight T) (read as_well : List T → Outcome T K A) → ((ts : List T) → read ts ≡ as_well ts) → Reads G s read → Reads G s as_well
+reads_as G s read as_well e g = record {
+  clear = g.clear;
+  exact = g.exact;
+  empty = g.empty;
+  right = λ ts. subst (λ o. Right G ts o) (e ts) (g.right ts);
+}
+
+-- the lookahead of a symbol that passes the test
+abbrev pub token_sight : {T : Type 0} → (T → Bool) → Sight T
+token_sight test = record { first = test; null = false; more = λ t. false }
+
+module _ {T : Type 0} (test : T → Bool) where
+  seen_token : (K : Type 0) (t : T) (b : Bool) → is_seen {K = K} (if b then takes t else refuses) ≡ b
+  seen_token K t true = refl
+  seen_token K t false = refl
+
+  seen_fault : {K : Type 0} (A : Type 0) (k : K) (b : Bool) → is_seen {A = A} (if b then faults k else refuses) ≡ b
+  seen_fault A k true = refl
+  seen_fault A k false = refl
+
+  sight_token : (K : Type 0) → terminal_sight {K = K} (λ t. if test t then takes t else refuses) ≡ token_sight test
+  sight_token K = λ i. record { first = λ t. seen_token K t (test t) i; null = false; more = λ t. false }
+
+  sight_fault : {K : Type 0} (A : Type 0) (k : K) → terminal_sight {A = A} (λ t. if test t then faults k else refuses) ≡ token_sight test
+  sight_fault A k = λ i. record { first = λ t. seen_fault A k (test t) i; null = false; more = λ t. false }
+
+pub reads-token : {T K : Type 0} (test : T → Bool) → Reads (token {T = T} {K = K} test) (token_sight test) (read_terminal (λ t. if test t then takes t else refuses))
+reads-token {T = T} {K = K} test =
+    subst (λ s. Reads (token {T = T} {K = K} test) s (read_terminal (λ t. if test t then takes t else refuses))) (sight_token test K)
+      (reads-terminal (λ t. if test t then takes t else refuses))
+
+fault_symbol : {T K A : Type 0} (k : K) (b : Bool) (t : T) (ts : List T) → read_symbol {A = A} (if b then faults k else refuses) t ts ≡ chosen b (failed (Some k) (t ∷ ts)) (failed None (t ∷ ts))
+fault_symbol k true t ts = refl
+fault_symbol k false t ts = refl
+
+fault_reader : {T K A : Type 0} (k : K) (test : T → Bool) (ts : List T) → read_terminal {A = A} (λ t. if test t then faults k else refuses) ts ≡ read_fault k test ts
+fault_reader k test [] = refl
+fault_reader k test (t ∷ ts) = fault_symbol k (test t) t ts
+
+pub reads-fault : {T K : Type 0} (A : Type 0) (k : K) (test : T → Bool) → Reads (fault {A = A} k test) (token_sight test) (read_fault k test)
+reads-fault A k test =
+    reads_as (fault {A = A} k test) (token_sight test) (read_terminal (λ t. if test t then faults k else refuses)) (read_fault k test) (fault_reader k test)
+      (subst (λ s. Reads (fault {A = A} k test) s (read_terminal (λ t. if test t then faults k else refuses))) (sight_fault test A k)
+        (reads-terminal (λ t. if test t then faults k else refuses)))
+
+-- another lookahead that sees the same first symbols, and no less behind
+pub reads_seen : {T K A : Type 0} (G : Rule T K A) (s t : Sight T) (read : List T → Outcome T K A) → Sees s t → ((x : T) → t.first x ≡ true → s.first x ≡ true) → (t.null ≡ true → s.null ≡ true) → Reads G s read → Reads G t read
+reads_seen G s t read w first null g = record {
+  clear = clear-wider G s t w g.clear;
+  exact = λ x e. g.exact x (first x e);
+  empty = λ e. g.empty (null e);
+  right = g.right;
+}
+
+or_false : (b : Bool) → (b || false) ≡ true → b ≡ true
+or_false true e = refl
+or_false false e = e
+
+and_false : (b : Bool) → (b && false) ≡ true → false ≡ true
+and_false true e = e
+and_false false e = e
+
+past_symbol : {T K A : Type 0} (b : Bool) (next : List T → Outcome T K A) (t : T) (ts : List T) → and_then (read_symbol (if b then takes t else refuses) t ts) (λ a left. next left) ≡ chosen b (next ts) (failed None (t ∷ ts))
+past_symbol true next t ts = refl
+past_symbol false next t ts = refl
+
+past_reader : {T K A : Type 0} (test : T → Bool) (next : List T → Outcome T K A) (ts : List T) → and_then (read_terminal (λ t. if test t then takes t else refuses) ts) (λ a left. next left) ≡ read_past test next ts
+past_reader test next [] = refl
+past_reader test next (t ∷ ts) = past_symbol (test t) next t ts
+
+-- the lookahead behind a symbol that passes the test
+abbrev pub past_sight : {T : Type 0} → (T → Bool) → Sight T → Sight T
+past_sight test s = record { first = test; null = false; more = s.more }
+
+module _ {T K A : Type 0} (test : T → Bool) (G : Rule T K A) (s : Sight T) (read : List T → Outcome T K A) (g : Reads G s read) where
+  more_past : (x : T) → (s.more x ≡ true) ⊎ ((s.null && false) ≡ true) → s.more x ≡ true
+  more_past x (inl e) = e
+  more_past x (inr e) = let f = and_false s.null e in cc
+
+  pub reads-past : Reads (preceded_by (token test) G) (past_sight test s) (read_past test read)
+  reads-past =
+      reads_seen (preceded_by (token test) G) (sequence_sight (token_sight test) s) (past_sight test s) (read_past test read)
+        (record {
+          first = λ x e. or_false (test x) e;
+          null = λ e. e;
+          more = λ x e. more_past x (or_cases (s.more x) (s.null && false) e);
+        })
+        (λ x e. or_left (test x) false e)
+        (λ e. e)
+        (reads_as (preceded_by (token test) G) (sequence_sight (token_sight test) s) (λ ts. and_then (read_terminal (λ t. if test t then takes t else refuses) ts) (λ a left. read left)) (read_past test read) (past_reader test read)
+          (reads-sequence (token test) (λ t. G) (token_sight test) s (read_terminal (λ t. if test t then takes t else refuses)) (λ t left. read left)
+            (reads-token test) (λ t. g) (λ x. refl)))
+
+-- the lookahead before a symbol that passes a test
+abbrev pub before_sight : {T : Type 0} → Sight T → Sight T
+before_sight s = record { first = s.first; null = false; more = λ t. false }
+
+closed_symbol : {T K A : Type 0} (b : Bool) (a : A) (t : T) (ts : List T) → read_made {K = K} (λ u. a) (read_symbol (if b then takes t else refuses) t ts) ≡ chosen b (found a ts) (failed None (t ∷ ts))
+closed_symbol true a t ts = refl
+closed_symbol false a t ts = refl
+
+closed_reader : {T K A : Type 0} (test : T → Bool) (a : A) (ts : List T) → read_made {K = K} (λ u. a) (read_terminal (λ t. if test t then takes t else refuses) ts) ≡ closed_by test a ts
+closed_reader test a [] = refl
+closed_reader test a (t ∷ ts) = closed_symbol (test t) a t ts
+
+before_outcome : {T K A : Type 0} (test : T → Bool) (o : Outcome T K A) → and_then o (λ a left. read_made (λ u. a) (read_terminal (λ t. if test t then takes t else refuses) left)) ≡ and_then o (closed_by test)
+before_outcome test (found a left) = closed_reader test a left
+before_outcome test (failed k left) = refl
+
+module _ {T K A : Type 0} (G : Rule T K A) (s : Sight T) (read : List T → Outcome T K A) (test : T → Bool) (g : Reads G s read) (wants : s.null ≡ false) (off : (x : T) → (s.more x && test x) ≡ false) where
+  first_before : (x : T) → (s.first x ≡ true) ⊎ ((s.null && test x) ≡ true) → s.first x ≡ true
+  first_before x (inl e) = e
+  first_before x (inr e) = let f = and_first s.null (test x) e in cc
+
+  pub reads-before : Reads (followed_by G (token test)) (before_sight s) (read_before test read)
+  reads-before =
+      reads_seen (followed_by G (token test)) (sequence_sight s (token_sight test)) (before_sight s) (read_before test read)
+        (record {
+          first = λ x e. first_before x (or_cases (s.first x) (s.null && test x) e);
+          null = λ e. and_second s.null false e;
+          more = λ x e. e;
+        })
+        (λ x e. or_left (s.first x) (s.null && test x) e)
+        (λ e. cc)
+        (reads_as (followed_by G (token test)) (sequence_sight s (token_sight test)) (λ ts. and_then (read ts) (λ a left. read_made (λ u. a) (read_terminal (λ t. if test t then takes t else refuses) left))) (read_before test read) (λ ts. before_outcome test (read ts))
+          (reads-sequence G (λ a. made (λ u. a) (token test)) s (token_sight test) read (λ a left. read_made (λ u. a) (read_terminal (λ t. if test t then takes t else refuses) left))
+            g (λ a. reads-made (λ u. a) (token test) (token_sight test) (read_terminal (λ t. if test t then takes t else refuses)) (reads-token test)) off))
+
+-- the lookahead of a sequence whose first rule has no empty text
+abbrev pub then_sight : {T : Type 0} → Sight T → Sight T → Sight T
+then_sight s t = record { first = s.first; null = false; more = λ x. t.more x || (t.null && s.more x) }
+
+module _ {T K A : Type 0} (G : Rule T K A) (s t : Sight T) (read : List T → Outcome T K A) (wants : s.null ≡ false) where
+  first_then : (x : T) → (s.first x ≡ true) ⊎ ((s.null && t.first x) ≡ true) → s.first x ≡ true
+  first_then x (inl e) = e
+  first_then x (inr e) = let f = and_first s.null (t.first x) e in cc
+
+  pub reads_then : Reads G (sequence_sight s t) read → Reads G (then_sight s t) read
+  reads_then g =
+      reads_seen G (sequence_sight s t) (then_sight s t) read
+        (record {
+          first = λ x e. first_then x (or_cases (s.first x) (s.null && t.first x) e);
+          null = λ e. let f = and_first s.null t.null e in cc;
+          more = λ x e. e;
+        })
+        (λ x e. or_left (s.first x) (s.null && t.first x) e)
+        (λ e. cc) g

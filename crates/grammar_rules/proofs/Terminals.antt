@@ -1,15 +1,10 @@
 -- The laws of terminals, of the empty text, and of a rule whose values are made of another's.
 use Rattle.std.proofs.Common.{◌≡◌, Bool, true, false, List, [], ◌∷◌, ◌++◌, refl, sym, ap, ◌∙◌, subst, inl, inr}
 use Rattle.grammar_rules.specs.Rules.{Rule, Last, fits, faulty, Verdict, takes, faults, refuses, terminal, nothing, made, SpelledByOne, FrontOfOne}
+use Rattle.grammar_rules.specs.Readers.{is_seen}
 use Rattle.grammar_rules.proofs.Lists.{or_left, or_right}
 use Rattle.grammar_rules.proofs.Clear.{Closed, Sight, Clear, fault-nil}
 use Rattle.grammar_rules.proofs.Alternatives.{cons_not_nil}
-
--- the symbol isn't refused
-abbrev pub is_seen : {K A : Type 0} → Verdict K A → Bool
-is_seen (takes a) = true
-is_seen (faults k) = true
-is_seen refuses = false
 
 abbrev pub terminal_sight : {T K A : Type 0} → (T → Verdict K A) → Sight T
 terminal_sight look = record { first = λ t. is_seen (look t); null = false; more = λ t. false }

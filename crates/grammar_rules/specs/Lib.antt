@@ -1,3 +1,5 @@
+pub mod ExpressionReaders
+pub mod Expressions
 pub mod Places
 pub mod Readers
 pub mod Rules

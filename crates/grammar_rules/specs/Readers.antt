@@ -1,5 +1,5 @@
 -- What a reader with one symbol of lookahead answers, and the readers that mirror the rules.
-use Rattle.std.specs.Prelude.{◌≡◌, ℕ, zero, suc, Bool, true, false, List, [], ◌∷◌, ◌++◌, length, ◌-◌, Option, Some, None}
+use Rattle.std.specs.Prelude.{◌≡◌, ℕ, zero, suc, Bool, true, false, List, [], ◌∷◌, ◌++◌, length, drop, ◌-◌, Option, Some, None}
 use Rattle.grammar_rules.specs.Places.{Answer, value, refusal}
 use Rattle.grammar_rules.specs.Rules.{Verdict, takes, faults, refuses, without}
 
@@ -30,6 +30,12 @@ abbrev pub read_terminal : {T K A : Type 0} → (T → Verdict K A) → List T �
 read_terminal look [] = failed None []
 read_terminal look (t ∷ ts) = read_symbol (look t) t ts
 
+-- whether the symbol isn't refused
+abbrev pub is_seen : {K A : Type 0} → Verdict K A → Bool
+is_seen (takes a) = true
+is_seen (faults k) = true
+is_seen refuses = false
+
 -- whether a symbol is there and passes the test
 abbrev pub starts : {T : Type 0} → (T → Bool) → List T → Bool
 starts test [] = false
@@ -39,6 +45,22 @@ starts test (t ∷ ts) = test t
 abbrev pub chosen : {T K A : Type 0} → Bool → Outcome T K A → Outcome T K A → Outcome T K A
 chosen true o q = o
 chosen false o q = q
+
+-- the outcome of a fault at a symbol that passes the test
+abbrev pub read_fault : {T K A : Type 0} → K → (T → Bool) → List T → Outcome T K A
+read_fault k test ts = chosen (starts test ts) (failed (Some k) ts) (failed None ts)
+
+-- the outcome behind a symbol that passes the test
+abbrev pub read_past : {T K A : Type 0} → (T → Bool) → (List T → Outcome T K A) → List T → Outcome T K A
+read_past test next ts = chosen (starts test ts) (next (drop 1 ts)) (failed None ts)
+
+-- the value, where a symbol that passes the test closes it
+abbrev pub closed_by : {T K A : Type 0} → (T → Bool) → A → List T → Outcome T K A
+closed_by test a ts = chosen (starts test ts) (found a (drop 1 ts)) (failed None ts)
+
+-- the outcome before a symbol that passes the test
+abbrev pub read_before : {T K A : Type 0} → (T → Bool) → (List T → Outcome T K A) → List T → Outcome T K A
+read_before test read ts = and_then (read ts) (closed_by test)
 
 -- the outcome of one after the other, for the pair of the values
 abbrev pub read_pair : {T K A B : Type 0} → (List T → Outcome T K A) → (List T → Outcome T K B) → List T → Outcome T K (A × B)

@@ -1,12 +1,8 @@
-//! Grammars as values.
+//! Grammars as values: rules with their fronts, read with one symbol of lookahead.
 #![tactic(auto)]
 
-ghost use Rattle.std.specs.Prelude.{◌≡◌, List};
-ghost use Rattle.grammar_rules.specs.Rules.{Rule, many};
-ghost use Rattle.grammar_rules.specs.Readers.{read_many};
+mod arithmetic;
+mod cursor;
 
-pub fn echo(x: usize) -> usize
-    ensures { result ≡ x }
-{
-    x
-}
+pub use arithmetic::{Expression, Token};
+pub use cursor::Cursor;
