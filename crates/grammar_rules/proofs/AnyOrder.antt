@@ -142,12 +142,14 @@ module _ {T K A I : Type 0} (same : I → I → Bool) (which : T → Option I) (
 
   unrolled_step : (free : I → Bool) (ts : List T) (o : Outcome T K (I × A)) → read_member which read free ts ≡ o
     → and_then o (λ a left. read_made (λ rest. a ∷ rest) (read_some_members same which read (length ts) (without same a.0 free) left)) ≡ and_then o (λ a left. read_made (λ rest. a ∷ rest) (read_members same which read (without same a.0 free) left))
+  unfolding read_members
   unrolled_step free ts (found a left) e =
       ap (read_made (λ rest. a ∷ rest)) (stable_members (length ts) (suc (length left)) (without same a.0 free) left (less free ts a left e) (omega arith))
   unrolled_step free ts (failed k left) e = refl
 
   -- the members are nothing, or one and then the others
   pub read_members-unrolled : (free : I → Bool) (ts : List T) → read_members same which read free ts ≡ chosen (starts (λ t. is_free free (which t)) ts) (and_then (read_member which read free ts) (λ a left. read_made (λ rest. a ∷ rest) (read_members same which read (without same a.0 free) left))) (found [] ts)
+  unfolding read_members
   read_members-unrolled free ts = ap (λ o. chosen (starts (λ t. is_free free (which t)) ts) o (found [] ts)) (unrolled_step free ts (read_member which read free ts) refl)
 
   joined_members : (xs ys : List (I × A)) (o : Outcome T K (List (I × A))) → read_made (λ rest. xs ++ rest) (read_made (λ rest. ys ++ rest) o) ≡ read_made (λ rest. (xs ++ ys) ++ rest) o
@@ -172,6 +174,7 @@ module _ {T K A I : Type 0} (same : I → I → Bool) (G : I → Rule T K A) (ea
   less_member = shrinks-member G each which tail named (λ i. (g i).clear) read (λ i. (g i).exact) (λ i. (g i).right)
 
   right_members : (free : I → Bool) (ts : List T) → Right (members same G free) ts (read_members same which read free ts)
+  unfolding read_members
   right_members free ts =
       right-growing (λ n. some_members same G n free) (λ n. members_grow same G n free) ts (suc (length ts)) (read_members same which read free ts)
         (λ k. rw (stable_members same which read less_member (suc (length ts)) (suc (length ts) + k) free ts (omega arith) (omega arith))

@@ -40,7 +40,7 @@ module _ (b : Brackets) (r : BracketReaders) (h : BracketsRead b r) where
           (reads-pair (terminal name) b.arguments (terminal_sight name) (token_sight is_open) (read_terminal name) r.arguments
             (reads-terminal name) h.arguments (λ x. refl)))
 
-  reads-term : Reads (term b) term_sight (read_term r)
+  pub reads-term : Reads (term b) term_sight (read_term r)
   reads-term =
       reads-either (terminal number) (either (call b.arguments) b.group) (terminal_sight number) (either_sight call_sight (token_sight is_open)) (read_terminal number) (read_either call_sight.first (read_call r.arguments) r.group)
         (reads-terminal number)

@@ -6,6 +6,7 @@ pub mod Clear
 pub mod Completions
 pub mod Depths
 pub mod ExpressionProofs
+pub mod ExpressionSteps
 pub mod Families
 pub mod Limited
 pub mod LimitedAnswers

@@ -42,12 +42,14 @@ module _ {T K A : Type 0} (test : T → Bool) (read : List T → Outcome T K A) 
 
   unrolled_step : (ts : List T) (o : Outcome T K A) → read ts ≡ o
     → and_then o (λ a left. read_made (λ rest. a ∷ rest) (read_bounded (length ts) test read (λ rest. found [] rest) left)) ≡ and_then o (λ a left. read_made (λ rest. a ∷ rest) (read_many test read left))
+  unfolding read_many
   unrolled_step ts (found a left) e =
       ap (read_made (λ rest. a ∷ rest)) (stable (λ rest. found [] rest) (length ts) (suc (length left)) left (less ts a left e) (omega arith))
   unrolled_step ts (failed k left) e = refl
 
   -- a repetition is nothing, or one more and then the repetition
   pub read_many-unrolled : (ts : List T) → read_many test read ts ≡ chosen (starts test ts) (and_then (read ts) (λ a left. read_made (λ rest. a ∷ rest) (read_many test read left))) (found [] ts)
+  unfolding read_many
   read_many-unrolled ts = ap (λ o. chosen (starts test ts) o (found [] ts)) (unrolled_step ts (read ts) refl)
 
   joined_twice : (xs ys : List A) (o : Outcome T K (List A)) → read_made (λ rest. xs ++ rest) (read_made (λ rest. ys ++ rest) o) ≡ read_made (λ rest. (xs ++ ys) ++ rest) o
@@ -91,6 +93,7 @@ module _ {T K A : Type 0} (G : Rule T K A) (s : Sight T) (read : List T → Outc
           (λ n. clear_wide G s (nothing []) nothing_sight g.clear (clear-nothing []) wants loops no_first n))
 
   right_many : (ts : List T) → Right (many G) ts (read_many s.first read ts)
+  unfolding read_many
   right_many ts =
       right-growing (λ n. bounded n G (nothing [])) (bounded_grows G) ts (suc (length ts)) (read_many s.first read ts)
         (λ k. rw (stable s.first read (shrinks G s read g wants) (λ rest. found [] rest) (suc (length ts)) (suc (length ts) + k) ts (omega arith) (omega arith))

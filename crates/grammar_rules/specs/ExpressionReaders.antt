@@ -1,5 +1,5 @@
 -- The readers of the small grammar of sums, which mirror its rules one by one.
-use Rattle.std.specs.Prelude.{◌≡◌, ◌≢◌, ℕ, zero, suc, pred, Bool, true, false, List, [], ◌∷◌, drop, Option, Some, None, Result, Ok, Err}
+use Rattle.std.specs.Prelude.{ℕ, zero, suc, List, [], drop, None}
 use Rattle.grammar_rules.specs.declared.arithmetic.Token.{Token}
 use Rattle.grammar_rules.specs.declared.arithmetic.Expression.{Expression}
 use Rattle.grammar_rules.specs.declared.arithmetic.Expression.TheVariants.{Literal, Sum, Call}
@@ -35,7 +35,7 @@ read_brackets (suc depth) = record {
   arguments = read_enclosed (read_list (read_sum (read_brackets depth)));
 }
 
--- an opening bracket is passed, where one more may be open
-abbrev pub read_open : ℕ → List Token → Outcome Token Limit (Unit {0})
+-- an opening bracket is passed, where one more may be open: how many more still may
+abbrev pub read_open : ℕ → List Token → Outcome Token Limit ℕ
 read_open zero ts = read_fault too_deep is_open ts
-read_open (suc depth) ts = chosen (starts is_open ts) (found tt (drop 1 ts)) (failed None ts)
+read_open (suc depth) ts = chosen (starts is_open ts) (found depth (drop 1 ts)) (failed None ts)

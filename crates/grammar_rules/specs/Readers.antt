@@ -87,7 +87,7 @@ read_bounded (suc n) test read end ts =
       (found [] ts)
 
 -- as often as a symbol passes the test
-abbrev pub read_many : {T K A : Type 0} → (T → Bool) → (List T → Outcome T K A) → List T → Outcome T K (List A)
+unfoldable pub read_many : {T K A : Type 0} → (T → Bool) → (List T → Outcome T K A) → List T → Outcome T K (List A)
 read_many test read ts = read_bounded (suc (length ts)) test read (λ left. found [] left) ts
 
 -- whether the symbol begins a member that is free
@@ -115,7 +115,7 @@ read_some_members same which read (suc n) free ts =
       (found [] ts)
 
 -- the free members in any order, each at most once, while a symbol begins one
-abbrev pub read_members : {T K A I : Type 0} → (I → I → Bool) → (T → Option I) → (I → List T → Outcome T K A) → (I → Bool) → List T → Outcome T K (List (I × A))
+unfoldable pub read_members : {T K A I : Type 0} → (I → I → Bool) → (T → Option I) → (I → List T → Outcome T K A) → (I → Bool) → List T → Outcome T K (List (I × A))
 read_members same which read free ts = read_some_members same which read (suc (length ts)) free ts
 
 -- the answer on a text of this many symbols: one more symbol behind the value's text is refused

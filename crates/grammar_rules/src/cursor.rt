@@ -1,4 +1,4 @@
-ghost use Rattle.std.specs.Prelude.{◌≡◌, [], ◌∷◌, length, slice_get, MatchOption};
+ghost use Rattle.std.specs.Prelude.{◌≡◌, [], ◌∷◌, length, drop, slice_get, MatchOption};
 ghost use Rattle.std.specs.Option.{option_copied};
 
 use std::marker::Model;
@@ -33,6 +33,15 @@ impl<'t, T> Cursor<'t, T> {
         ensures { result ≡ length self.now }
     {
         self.left.len()
+    }
+
+    /// Passes the next symbol, where one is left.
+    pub fn skip(&mut self)
+        ensures { self.new ≡ drop 1 self.old }
+    {
+        if let [_, rest @ ..] = self.left {
+            self.left = rest;
+        }
     }
 }
 
