@@ -5,6 +5,7 @@ pub mod Choices
 pub mod Clear
 pub mod Completions
 pub mod Depths
+pub mod ExpressionAnswers
 pub mod ExpressionProofs
 pub mod ExpressionSteps
 pub mod Families

@@ -75,7 +75,7 @@ brackets zero = record { group = fault too_deep is_open; arguments = fault too_d
 brackets (suc depth) = record { group = enclosed (sum (brackets depth)); arguments = enclosed (list (sum (brackets depth))) }
 
 -- the expressions with at most so many brackets open
-abbrev pub expression : ℕ → Rule Token Limit Expression
+unfoldable pub expression : ℕ → Rule Token Limit Expression
 expression depth = sum (brackets depth)
 
 -- the same without a fault for what is too deep
@@ -84,5 +84,5 @@ some_brackets zero = record { group = never; arguments = never }
 some_brackets (suc depth) = record { group = enclosed (sum (some_brackets depth)); arguments = enclosed (list (sum (some_brackets depth))) }
 
 -- the expressions of any depth
-abbrev pub any_expression : Rule Token Limit Expression
+unfoldable pub any_expression : Rule Token Limit Expression
 any_expression = alternatives (λ depth. sum (some_brackets depth))

@@ -22,6 +22,12 @@ abbrev pub Gives : {A : Type 0} → Outcome Token Limit A → Result A Failure �
 Gives outcome (Ok a) left = outcome ≡ found a left
 Gives outcome (Err e) left = e ≢ Memory → outcome ≡ failed (fault_of e) left
 
+-- the error that a failure at this place is
+abbrev pub error_of : Failure → ℕ → ParseError
+error_of Refused at = Syntax at
+error_of Deep at = TooDeep at
+error_of Memory at = OutOfMemory
+
 -- the answer that a result is, but for want of memory
 abbrev pub answer_of : Result Expression ParseError → Option (Answer Limit Expression)
 answer_of (Ok e) = Some (value e)

@@ -1,11 +1,11 @@
 //! Sums, brackets and calls: a small grammar that is read by its rules.
 
 ghost use Rattle.std.specs.Prelude.{◌≡◌, ◌+◌, ◌<◌, ◌≤◌, [], ◌∷◌, length, IfOk, IfSome, MatchOption};
-ghost use Rattle.grammar_rules.specs.Expressions.{is_plus, is_comma, is_open, is_close, expression};
+ghost use Rattle.grammar_rules.specs.Expressions.{is_plus, is_comma, is_open, is_close, Limit, expression};
 ghost use Rattle.grammar_rules.specs.Readers.{starts, closed_by};
 ghost use Rattle.grammar_rules.specs.ExpressionReaders.{read_open, read_term, read_sum, read_list, read_brackets};
-ghost use Rattle.grammar_rules.specs.Places.{Answers};
-ghost use Rattle.grammar_rules.specs.Parsing.{Gives, TakesNumber, TakesName, answer_of};
+ghost use Rattle.grammar_rules.specs.Places.{Answer, Answers};
+ghost use Rattle.grammar_rules.specs.Parsing.{Gives, TakesNumber, TakesName, answer_of, error_of};
 
 use crate::cursor::Cursor;
 use sqlite_items::Items;
@@ -64,22 +64,35 @@ impl From<AllocError> for Failure {
 
 /// Reads the tokens as one expression.
 pub fn parse(alloc: Global, tokens: &[Token]) -> Result<Expression, ParseError>
-    ensures sound { IfSome (answer_of result) (Answers (expression MAX_DEPTH) tokens.now) }
+    ensures sound { IfSome (answer_of result) (λ x. Answers (expression MAX_DEPTH) tokens.now x) }
+
+    // What the grammar says of the tokens is the answer, but for want of memory.
+    ensures complete { (x : Answer Limit Expression) → Answers (expression MAX_DEPTH) tokens.now x → IfSome (answer_of result) (λ y. y ≡ x) }
 {
     let mut cursor = Cursor::new(tokens);
     let outcome = sum(alloc, &mut cursor, MAX_DEPTH);
-    let at = tokens.len() - cursor.len();
+    let left = cursor.len();
+    let at = tokens.len() - left;
     match outcome {
         Ok(expression) => {
-            if cursor.len() == 0 {
+            if left == 0 {
                 Ok(expression)
             } else {
                 Err(ParseError::Syntax(at))
             }
         }
-        Err(Failure::Refused) => Err(ParseError::Syntax(at)),
-        Err(Failure::Deep) => Err(ParseError::TooDeep(at)),
-        Err(Failure::Memory) => Err(ParseError::OutOfMemory),
+        Err(failure) => Err(error_at(failure, at)),
+    }
+}
+
+/// The error that a failure at this place is.
+fn error_at(failure: Failure, at: usize) -> ParseError
+    ensures { result ≡ error_of failure at }
+{
+    match failure {
+        Failure::Refused => ParseError::Syntax(at),
+        Failure::Deep => ParseError::TooDeep(at),
+        Failure::Memory => ParseError::OutOfMemory,
     }
 }
 
