@@ -3,9 +3,12 @@ pub mod Answering
 pub mod AnyOrder
 pub mod Choices
 pub mod Clear
+pub mod ClosedRules
 pub mod Completions
 pub mod Depths
 pub mod ExpressionAnswers
+pub mod ExpressionFronts
+pub mod ExpressionLimits
 pub mod ExpressionProofs
 pub mod ExpressionSteps
 pub mod Families
