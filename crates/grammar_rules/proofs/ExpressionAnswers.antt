@@ -1,5 +1,5 @@
 -- What the parser's outcome says of the text, in the grammar's words.
-use Rattle.std.proofs.Common.{◌≡◌, ◌≢◌, ℕ, zero, suc, ◌+◌, ◌-◌, ◌<◌, ◌≤◌, Bool, true, false, List, [], ◌∷◌, ◌++◌, length, Option, Some, None, Result, Ok, Err, IfSome, refl, sym, ap, ◌∙◌, subst, arith}
+use Rattle.std.proofs.Common.{◌≡◌, ◌≢◌, ℕ, zero, suc, ◌+◌, ◌-◌, ◌<◌, ◌≤◌, Bool, true, false, List, [], ◌∷◌, ◌++◌, length, Option, Some, None, Result, Ok, Err, IfOk, IfSome, refl, sym, ap, ◌∙◌, subst, arith}
 use Rattle.grammar_rules.specs.declared.arithmetic.Token.{Token}
 use Rattle.grammar_rules.specs.declared.arithmetic.Expression.{Expression}
 use Rattle.grammar_rules.specs.declared.arithmetic.ParseError.{ParseError}
@@ -7,13 +7,15 @@ use Rattle.grammar_rules.specs.declared.arithmetic.Failure.{Failure}
 use Rattle.grammar_rules.specs.declared.arithmetic.Failure.TheVariants.{Refused, Deep, Memory}
 use Rattle.grammar_rules.specs.Readers.{Outcome, found, failed, answer}
 use Rattle.grammar_rules.specs.Places.{RefusedThere, FaultyThere, Answer, value, refusal, Answers}
-use Rattle.grammar_rules.specs.Expressions.{Limit, too_deep, expression, brackets, sum}
+use Rattle.grammar_rules.specs.Expressions.{Limit, too_deep, expression, any_expression, brackets, sum}
 use Rattle.grammar_rules.specs.ExpressionReaders.{read_sum, read_brackets}
 use Rattle.grammar_rules.specs.Parsing.{answer_of, error_of, fault_of}
 use Rattle.grammar_rules.proofs.Clear.{Clear}
 use Rattle.grammar_rules.proofs.Reading.{Reads}
 use Rattle.grammar_rules.proofs.Answering.{answers}
 use Rattle.grammar_rules.proofs.OneAnswer.{one_answer}
+use Rattle.grammar_rules.specs.declared.arithmetic.ParseError.TheVariants.{Syntax}
+use Rattle.grammar_rules.proofs.ExpressionLimits.{refused_at_any_depth, spelled_at_any_depth}
 use Rattle.grammar_rules.proofs.ExpressionProofs.{sum_sight, reads-expression}
 
 module _ (depth : ℕ) (ts : List Token) where
@@ -52,3 +54,11 @@ module _ (depth : ℕ) (ts : List Token) where
   pub only_answer : (o : Option (Answer Limit Expression)) → IfSome o (λ y. Answers (expression depth) ts y) → (x : Answer Limit Expression) → Answers (expression depth) ts x → IfSome o (λ y. y ≡ x)
   only_answer None v x w = tt
   only_answer (Some y) v x w = said_once y x v w
+
+  -- the limit on the depth takes nothing else away, and moves no place
+  pub ok_at_any_depth : (r : Result Expression ParseError) → IfSome (answer_of r) (λ y. Answers (expression depth) ts y) → IfOk r (λ e. any_expression.Spells e ts)
+  ok_at_any_depth (Ok e) s = spelled_at_any_depth depth ts e s
+  ok_at_any_depth (Err e) s = tt
+
+  pub syntax_at_any_depth : (r : Result Expression ParseError) → IfSome (answer_of r) (λ y. Answers (expression depth) ts y) → (at : ℕ) → r ≡ Err (Syntax at) → RefusedThere any_expression ts at
+  syntax_at_any_depth r s at e = refused_at_any_depth depth ts at (subst (λ q. IfSome (answer_of q) (λ y. Answers (expression depth) ts y)) e s)

@@ -1,10 +1,11 @@
 //! Sums, brackets and calls: a small grammar that is read by its rules.
 
-ghost use Rattle.std.specs.Prelude.{◌≡◌, ◌+◌, ◌<◌, ◌≤◌, [], ◌∷◌, length, IfOk, IfSome, MatchOption};
-ghost use Rattle.grammar_rules.specs.Expressions.{is_plus, is_comma, is_open, is_close, Limit, expression};
+ghost use Rattle.std.specs.Prelude.{◌≡◌, ℕ, ◌<◌, ◌≤◌, ◌++◌, List, length, IfOk, IfSome};
+ghost use Rattle.grammar_rules.specs.Rules.{fits};
+ghost use Rattle.grammar_rules.specs.Expressions.{is_plus, is_comma, is_open, is_close, Limit, expression, any_expression};
 ghost use Rattle.grammar_rules.specs.Readers.{starts, closed_by};
 ghost use Rattle.grammar_rules.specs.ExpressionReaders.{read_open, read_term, read_sum, read_list, read_brackets};
-ghost use Rattle.grammar_rules.specs.Places.{Answer, Answers};
+ghost use Rattle.grammar_rules.specs.Places.{Answer, Answers, RefusedThere};
 ghost use Rattle.grammar_rules.specs.Parsing.{Gives, TakesNumber, TakesName, answer_of, error_of};
 
 use crate::cursor::Cursor;
@@ -68,6 +69,10 @@ pub fn parse(alloc: Global, tokens: &[Token]) -> Result<Expression, ParseError>
 
     // What the grammar says of the tokens is the answer, but for want of memory.
     ensures complete { (x : Answer Limit Expression) → Answers (expression MAX_DEPTH) tokens.now x → IfSome (answer_of result) (λ y. y ≡ x) }
+
+    // The limit on the depth takes nothing else away, and moves no place.
+    ensures spelled { IfOk result (λ e. any_expression.Spells e tokens.now) }
+    ensures refused { (at : ℕ) → result ≡ Err (ParseError.Syntax at) → RefusedThere any_expression tokens.now at }
 {
     let mut cursor = Cursor::new(tokens);
     let outcome = sum(alloc, &mut cursor, MAX_DEPTH);
@@ -83,6 +88,13 @@ pub fn parse(alloc: Global, tokens: &[Token]) -> Result<Expression, ParseError>
         }
         Err(failure) => Err(error_at(failure, at)),
     }
+}
+
+/// A law: what the cases of the grammar tell as a front is exactly what begins an expression.
+pub fn fronts_begin_expressions()
+    ensures begun { (ts : List Token) → any_expression.Front fits ts → (rest : List Token) × (e : Expression) × any_expression.Spells e (ts ++ rest) }
+    ensures begins { (ts rest : List Token) (e : Expression) → any_expression.Spells e (ts ++ rest) → any_expression.Front fits ts }
+{
 }
 
 /// The error that a failure at this place is.

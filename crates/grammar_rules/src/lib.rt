@@ -4,5 +4,5 @@
 mod arithmetic;
 mod cursor;
 
-pub use arithmetic::{Expression, MAX_DEPTH, ParseError, Token, parse};
+pub use arithmetic::{Expression, MAX_DEPTH, ParseError, Token, fronts_begin_expressions, parse};
 pub use cursor::Cursor;
