@@ -170,7 +170,7 @@ module _ {T K A I : Type 0} (same : I → I → Bool) (which : T → Option I) (
   members_fail free so_far ts k left e f = rw (read_members-unrolled free ts, e, f)
 
 module _ {T K A I : Type 0} (same : I → I → Bool) (G : I → Rule T K A) (each : I → Sight T) (which : T → Option I) (tail : T → Bool) (named : Named each which tail) (read : I → List T → Outcome T K A) (g : (i : I) → Reads (G i) (each i) (read i)) where
-  less_member : (free : I → Bool) → Shrinks (read_member which read free)
+  pub less_member : (free : I → Bool) → Shrinks (read_member which read free)
   less_member = shrinks-member G each which tail named (λ i. (g i).clear) read (λ i. (g i).exact) (λ i. (g i).right)
 
   right_members : (free : I → Bool) (ts : List T) → Right (members same G free) ts (read_members same which read free ts)

@@ -12,6 +12,8 @@ pub mod ExpressionLimits
 pub mod ExpressionProofs
 pub mod ExpressionSteps
 pub mod Families
+pub mod Fronts
+pub mod KeyedProofs
 pub mod Limited
 pub mod LimitedAnswers
 pub mod Lists
