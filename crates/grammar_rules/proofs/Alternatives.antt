@@ -1,7 +1,6 @@
 -- The laws of alternatives: of members that begin apart, and of a growing family.
-use Rattle.std.proofs.Common.{◌≡◌, ℕ, zero, suc, ◌+◌, ◌||◌, ◌&&◌, Bool, true, false, List, [], ◌∷◌, ◌++◌, refl, sym, ap, ◌∙◌, subst, inl, inr, append_assoc, append-nil, zero-add, suc-add, add_comm}
-use Rattle.grammar_rules.specs.Rules.{Rule, Last, fits, faulty, alternatives, either, one_of_two}
-use Rattle.grammar_rules.proofs.Lists.{or_left, or_right, and_both, apart}
+use Rattle.std.proofs.Common.{◌≡◌, ℕ, zero, suc, ◌+◌, true, List, [], ◌∷◌, ◌++◌, refl, subst, inl, inr, zero-add, suc-add, add_comm}
+use Rattle.grammar_rules.specs.Rules.{Rule, Last, fits, faulty, alternatives}
 use Rattle.grammar_rules.proofs.Clear.{Closed, Sight, Clear, fault-nil}
 
 pub cons_not_nil : {T : Type 0} (pre : List T) (t : T) (r : List T) → pre ++ t ∷ r ≡ [] → ⊥
@@ -117,7 +116,7 @@ module _ {T K A : Type 0} (G : ℕ → Rule T K A) (grows : (n : ℕ) → Within
     on_grown a pre m t r w (inl e) = absurd (cons_not_nil pre t r e.1)
     on_grown a pre m t r w (inr f) =
         (g (w.0 + f.0)).goes_on a pre m t r
-          ((to_sum_left w.0 f.0).spells a pre w.1) ((to_sum_right w.0 f.0).front m (pre ++ t ∷ r) f.1)
+        ((to_sum_left w.0 f.0).spells a pre w.1) ((to_sum_right w.0 f.0).front m (pre ++ t ∷ r) f.1)
 
     last_grown_nil : (k : K) (i : ℕ) (pre r : List T) → (G i).Front (faulty k) pre → pre ++ r ≡ [] → ⊥
     last_grown_nil k i [] r f e = fault-nil (G i) s (g i) k f
@@ -128,7 +127,7 @@ module _ {T K A : Type 0} (G : ℕ → Rule T K A) (grows : (n : ℕ) → Within
     last_grown k pre m r (inr f) (inl e) = absurd (last_grown_nil k f.0 pre r f.1 e.1)
     last_grown k pre m r (inr f) (inr x) =
         (g (f.0 + x.0)).last k pre m r
-          ((to_sum_left f.0 x.0).front (faulty k) pre f.1) ((to_sum_right f.0 x.0).front m (pre ++ r) x.1)
+        ((to_sum_left f.0 x.0).front (faulty k) pre f.1) ((to_sum_right f.0 x.0).front m (pre ++ r) x.1)
 
     pub clear-growing : Clear (alternatives G) s
     clear-growing = record {
@@ -137,7 +136,7 @@ module _ {T K A : Type 0} (G : ℕ → Rule T K A) (grows : (n : ℕ) → Within
       empty = λ a w. (g w.0).empty a w.1;
       goes_on = on_grown;
       single = λ a b ts w v.
-        (g (w.0 + v.0)).single a b ts
+          (g (w.0 + v.0)).single a b ts
           ((to_sum_left w.0 v.0).spells a ts w.1) ((to_sum_right w.0 v.0).spells b ts v.1);
       last = last_grown;
     }

@@ -1,12 +1,10 @@
 -- A right outcome gives the text's value or its first fault with the exact place; there is one answer.
-use Rattle.std.proofs.Common.{◌≡◌, ℕ, zero, suc, ◌+◌, ◌-◌, ◌<◌, ◌≤◌, Bool, true, false, List, [], ◌∷◌, ◌++◌, length, take, drop, Option, Some, None, refl, sym, ap, ◌∙◌, subst, inl, inr, append_assoc, append-nil, arith, length-append, add-one, take-append-drop}
-use mathlib.Core.List.{append_cancel_right}
+use Rattle.std.proofs.Common.{◌≡◌, ℕ, zero, suc, ◌+◌, ◌-◌, ◌<◌, ◌≤◌, List, [], ◌∷◌, ◌++◌, length, take, Some, None, refl, sym, ap, ◌∙◌, subst, append_assoc, append-nil, arith, length-append}
 use Rattle.grammar_rules.specs.Rules.{Rule, Last, fits, faulty}
 use Rattle.grammar_rules.specs.Readers.{Outcome, found, failed, answer}
-use Rattle.grammar_rules.specs.Places.{RefusedThere, FaultyThere, FirstFault, Answer, value, refusal, Answers}
-use Rattle.grammar_rules.proofs.Lists.{Cut, beyond, equal, inside, cut}
-use Rattle.grammar_rules.proofs.Clear.{Closed, Sight, Clear, fault-nil}
-use Rattle.grammar_rules.proofs.Right.{Stops, FoundAt, RefusedAt, FaultAt, Right}
+use Rattle.grammar_rules.specs.Places.{RefusedThere, FaultyThere, Answers}
+use Rattle.grammar_rules.proofs.Clear.{Closed}
+use Rattle.grammar_rules.proofs.Right.{Stops, Right}
 
 -- the place behind pre
 pub place_behind : {T : Type 0} (pre left : List T) → length (pre ++ left) - length left ≡ length pre
@@ -56,10 +54,10 @@ module _ {T K A : Type 0} (G : Rule T K A) (g : Closed G) where
       subst (λ z. G.Spells a z) e w.spells
   answers ts (found a (t ∷ left)) w =
       subst (λ z. RefusedThere G z (length z - length (t ∷ left))) (sym w.is)
-        (refused_place w.pre (t ∷ left) (g.spelled a w.pre w.spells) w.stops (no_longer_text w.pre t left w.stops))
+      (refused_place w.pre (t ∷ left) (g.spelled a w.pre w.spells) w.stops (no_longer_text w.pre t left w.stops))
   answers ts (failed None left) w =
       subst (λ z. RefusedThere G z (length z - length left)) (sym w.is)
-        (refused_place w.pre left w.front w.stops (no_text w.pre left w.stops w.unspelled))
+      (refused_place w.pre left w.front w.stops (no_text w.pre left w.stops w.unspelled))
   answers ts (failed (Some k) left) w =
       let e : ts ≡ w.pre ++ w.at ∷ w.behind = w.is ∙ ap (λ l. w.pre ++ l) w.stands in
       rw (e, w.stands) (faulty_place k w.pre w.at w.behind w.front)

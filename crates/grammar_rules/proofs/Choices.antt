@@ -1,12 +1,12 @@
 -- The alternative of two rules, and of a rule and nothing.
-use Rattle.std.proofs.Common.{◌≡◌, ◌||◌, ◌&&◌, ◌⊎◌, Bool, true, false, List, [], ◌∷◌, ◌++◌, Option, Some, None, refl, sym, ap, ◌∙◌, subst, inl, inr, append_assoc, append-nil}
-use Rattle.grammar_rules.specs.Rules.{Rule, Last, fits, faulty, nothing, made, alternatives, either, one_of_two, optional}
-use Rattle.grammar_rules.specs.Readers.{Outcome, found, failed, read_made, starts, chosen, read_either, read_optional}
+use Rattle.std.proofs.Common.{◌≡◌, ◌||◌, ◌&&◌, ◌⊎◌, Bool, true, false, List, [], ◌∷◌, Some, None, refl, subst, inl, inr}
+use Rattle.grammar_rules.specs.Rules.{Rule, Last, nothing, made, either, one_of_two, optional}
+use Rattle.grammar_rules.specs.Readers.{Outcome, found, read_made, starts, chosen, read_either, read_optional}
 use Rattle.grammar_rules.proofs.Lists.{or_left, or_right, and_both, apart}
 use Rattle.grammar_rules.proofs.Clear.{Closed, Sight, Clear}
 use Rattle.grammar_rules.proofs.Alternatives.{Parted, clear-alternatives, closed-alternatives}
-use Rattle.grammar_rules.proofs.Terminals.{nothing_sight, clear-nothing, clear-made, closed-nothing, closed-made}
-use Rattle.grammar_rules.proofs.Right.{Stops, Right, right-nothing, right-made}
+use Rattle.grammar_rules.proofs.Terminals.{nothing_sight}
+use Rattle.grammar_rules.proofs.Right.{Right}
 use Rattle.grammar_rules.proofs.Reading.{Exact, Reads, right-alternative, or_cases, reads-made, reads-nothing}
 
 -- the lookahead of the alternative of two
@@ -72,10 +72,10 @@ module _ {T K A : Type 0} (G H : Rule T K A) where
 
   -- a reader that takes the first rule where the symbol passes the test, which tells it
   module _ (test : T → Bool) (g : Closed G) (h : Closed H)
-    (begins : (m : Last K) (t : T) (x : List T) → G.Front m (t ∷ x) → test t ≡ true)
-    (exact : Exact G test)
-    (off : (m : Last K) (t : T) (x : List T) → test t ≡ true → H.Front m (t ∷ x) → ⊥)
-    (wants : (a : A) → G.Spells a [] → ⊥) where
+      (begins : (m : Last K) (t : T) (x : List T) → G.Front m (t ∷ x) → test t ≡ true)
+      (exact : Exact G test)
+      (off : (m : Last K) (t : T) (x : List T) → test t ≡ true → H.Front m (t ∷ x) → ⊥)
+      (wants : (a : A) → G.Spells a [] → ⊥) where
     only_first : (t : T) (ts : List T) → test t ≡ true → (j : Bool) (m : Last K) (u : T) (r x : List T) → t ∷ ts ≡ u ∷ r → (one_of_two G H j).Front m (u ∷ x) → j ≡ true
     only_first t ts e true m u r x q f = refl
     only_first t ts e false m u r x q f =
@@ -124,7 +124,7 @@ module _ {T K A : Type 0} (G H : Rule T K A) (s t : Sight T) (read other : List 
     exact = λ u e. exact_two u (or_cases (s.first u) (t.first u) e);
     empty = λ e. null_either (or_cases s.null t.null e);
     right = λ ts.
-      right-either G H s.first g.clear.fronts h.clear.fronts g.clear.starts g.exact
+        right-either G H s.first g.clear.fronts h.clear.fronts g.clear.starts g.exact
         (λ m u x e f. apart (s.first u) (t.first u) (off u) e (h.clear.starts m u x f)) not_empty
         ts (read ts) (other ts) (g.right ts) (h.right ts);
   }
@@ -140,4 +140,4 @@ and_false false = refl
 pub reads-optional : {T K A : Type 0} (G : Rule T K A) (s : Sight T) (read : List T → Outcome T K A) → Reads G s read → s.null ≡ false → Reads (optional G) (optional_sight s) (read_optional s.first read)
 reads-optional G s read g wants =
     reads-either (made Some G) (nothing None) s nothing_sight (λ ts. read_made Some (read ts)) (λ ts. found None ts)
-      (reads-made Some G s read g) (reads-nothing None) (λ x. and_false (s.first x)) wants
+    (reads-made Some G s read g) (reads-nothing None) (λ x. and_false (s.first x)) wants

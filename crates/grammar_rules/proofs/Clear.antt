@@ -1,5 +1,5 @@
 -- What one symbol of lookahead can tell of a rule.
-use Rattle.std.proofs.Common.{◌≡◌, ◌||◌, ◌&&◌, Bool, true, false, List, [], ◌∷◌, ◌++◌, refl, sym, ap, ◌∙◌, subst, inl, inr, append_assoc, append-nil}
+use Rattle.std.proofs.Common.{◌≡◌, Bool, true, List, [], ◌∷◌, ◌++◌}
 use Rattle.grammar_rules.specs.Rules.{Rule, Last, fits, faulty}
 
 -- the fronts of a rule are what they should be: the empty list, each text, and each front of a front

@@ -1,6 +1,6 @@
 -- The fronts of rules that are put together are closed.
-use Rattle.std.proofs.Common.{◌≡◌, ℕ, zero, suc, Bool, true, false, List, [], ◌∷◌, ◌++◌, Option, Some, None, refl, sym, subst, inl, inr, if◌then◌else◌}
-use Rattle.grammar_rules.specs.Rules.{Rule, Last, fits, faulty, Verdict, takes, faults, refuses, Joined, terminal, token, nothing, made, sequence, alternatives, either, one_of_two, headed, ◌&◌, bounded, many, preceded_by, followed_by, FrontOfOne, SpelledByOne}
+use Rattle.std.proofs.Common.{◌≡◌, ℕ, zero, suc, Bool, true, false, List, [], ◌∷◌, ◌++◌, refl, subst, inl, inr, if◌then◌else◌}
+use Rattle.grammar_rules.specs.Rules.{Rule, Last, fits, faulty, Verdict, takes, faults, refuses, token, nothing, made, headed, ◌&◌, bounded, many, preceded_by, followed_by}
 use Rattle.grammar_rules.proofs.Clear.{Closed}
 use Rattle.grammar_rules.proofs.Sequences.{closed-sequence}
 use Rattle.grammar_rules.proofs.Alternatives.{closed-alternatives}

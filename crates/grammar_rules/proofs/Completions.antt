@@ -1,6 +1,6 @@
 -- Rules in which each front begins a text, part by part.
-use Rattle.std.proofs.Common.{◌≡◌, ℕ, zero, suc, Bool, true, false, List, [], ◌∷◌, ◌++◌, Option, Some, None, refl, sym, ap, ◌∙◌, subst, inl, inr, append_assoc, append-nil}
-use Rattle.grammar_rules.specs.Rules.{Rule, Last, fits, faulty, Verdict, takes, faults, refuses, Joined, terminal, nothing, made, sequence, alternatives, either, one_of_two, optional, headed, ◌&◌, bounded, many, SpelledByOne, FrontOfOne, Completes}
+use Rattle.std.proofs.Common.{◌≡◌, ℕ, zero, suc, true, false, List, [], ◌∷◌, ◌++◌, Some, None, refl, sym, ap, ◌∙◌, subst, inl, inr, append_assoc, append-nil}
+use Rattle.grammar_rules.specs.Rules.{Rule, fits, Verdict, takes, Joined, terminal, nothing, made, sequence, alternatives, either, one_of_two, optional, headed, ◌&◌, bounded, many, SpelledByOne, FrontOfOne, Completes}
 use Rattle.grammar_rules.proofs.Clear.{Closed}
 
 -- a terminal that some symbol fits
@@ -86,13 +86,13 @@ pub completes-bounded : {T K A : Type 0} (n : ℕ) (G H : Rule T K A) → Comple
 completes-bounded zero G H c nil = completes-nothing []
 completes-bounded (suc n) G H c nil =
     completes-either (headed G (bounded n G (nothing []))) (headed H (bounded n H (nothing []))) (nothing []) (nothing [])
-      (completes-headed G H (bounded n G (nothing [])) (bounded n H (nothing [])) c (completes-bounded n G H c nil) (bounded_nil n G))
-      (completes-nothing []) (inl nil)
+    (completes-headed G H (bounded n G (nothing [])) (bounded n H (nothing [])) c (completes-bounded n G H c nil) (bounded_nil n G))
+    (completes-nothing []) (inl nil)
 
 pub completes-many : {T K A : Type 0} (G H : Rule T K A) → Completes G H → G.Front fits [] → Completes (many G) (many H)
 completes-many G H c nil =
     completes-alternatives (λ n. bounded n G (nothing [])) (λ n. bounded n H (nothing [])) (λ n. n)
-      (λ n. completes-bounded n G H c nil) 0 (refl, refl)
+    (λ n. completes-bounded n G H c nil) 0 (refl, refl)
 
 -- where each member of a family is completed by a later one, the family completes itself
 pub completes-family : {T K A : Type 0} (G : ℕ → Rule T K A) → ((n : ℕ) → Completes (G n) (G (suc n))) → (G 0).Front fits [] → Completes (alternatives G) (alternatives G)
@@ -104,5 +104,5 @@ prefix-front G g ts [] a w = subst (λ z. G.Front fits z) (append-nil ts) (g.spe
 prefix-front G g ts (t ∷ rest) a w = g.closed fits ts t rest (g.spelled a (ts ++ t ∷ rest) w)
 
 pub front_begins_text : {T K A : Type 0} (G : Rule T K A) → Closed G → Completes G G → (ts : List T)
-  → (G.Front fits ts → (rest : List T) × (a : A) × G.Spells a (ts ++ rest)) × (((rest : List T) × (a : A) × G.Spells a (ts ++ rest)) → G.Front fits ts)
+    → (G.Front fits ts → (rest : List T) × (a : A) × G.Spells a (ts ++ rest)) × (((rest : List T) × (a : A) × G.Spells a (ts ++ rest)) → G.Front fits ts)
 front_begins_text G g c ts = (c.completed ts, λ w. prefix-front G g ts w.0 w.1 w.2)

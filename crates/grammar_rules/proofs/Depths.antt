@@ -1,6 +1,6 @@
 -- A rule that says no more than another, part by part: so a longer depth says no less.
-use Rattle.std.proofs.Common.{◌≡◌, ℕ, zero, suc, Bool, true, false, List, [], ◌∷◌, ◌++◌, Option, Some, None, refl, sym, inl, inr}
-use Rattle.grammar_rules.specs.Rules.{Rule, Last, fits, faulty, Joined, nothing, made, sequence, alternatives, either, one_of_two, optional, headed, ◌&◌, followed_by, preceded_by, bounded, many}
+use Rattle.std.proofs.Common.{ℕ, zero, suc, true, false, List, [], ◌∷◌, Some, None, inl, inr}
+use Rattle.grammar_rules.specs.Rules.{Rule, Last, nothing, made, sequence, alternatives, either, one_of_two, optional, headed, ◌&◌, followed_by, preceded_by, bounded, many}
 use Rattle.grammar_rules.proofs.Alternatives.{Within, Within_refl}
 
 pub within-made : {T K A B : Type 0} (f : A → B) (G H : Rule T K A) → Within G H → Within (made f G) (made f H)
@@ -65,18 +65,18 @@ pub within-bounded : {T K A : Type 0} (n : ℕ) (G G' : Rule T K A) (end end' : 
 within-bounded zero G G' end end' g e = e
 within-bounded (suc n) G G' end end' g e =
     within-either (headed G (bounded n G end)) (headed G' (bounded n G' end')) (nothing []) (nothing [])
-      (within-headed G G' (bounded n G end) (bounded n G' end') g (within-bounded n G G' end end' g e))
-      (Within_refl (nothing []))
+    (within-headed G G' (bounded n G end) (bounded n G' end') g (within-bounded n G G' end end' g e))
+    (Within_refl (nothing []))
 
 pub within-many : {T K A : Type 0} (G H : Rule T K A) → Within G H → Within (many G) (many H)
 within-many G H w =
     within-alternatives (λ n. bounded n G (nothing [])) (λ n. bounded n H (nothing []))
-      (λ n. within-bounded n G H (nothing []) (nothing []) w (Within_refl (nothing [])))
+    (λ n. within-bounded n G H (nothing []) (nothing []) w (Within_refl (nothing [])))
 
 -- one repetition more says no less
 pub bounded_grows : {T K A : Type 0} (G : Rule T K A) (n : ℕ) → Within (bounded n G (nothing [])) (bounded (suc n) G (nothing []))
 bounded_grows G zero = within-member (one_of_two (headed G (nothing [])) (nothing [])) false
 bounded_grows G (suc n) =
     within-either (headed G (bounded n G (nothing []))) (headed G (bounded (suc n) G (nothing []))) (nothing []) (nothing [])
-      (within-headed G G (bounded n G (nothing [])) (bounded (suc n) G (nothing [])) (Within_refl G) (bounded_grows G n))
-      (Within_refl (nothing []))
+    (within-headed G G (bounded n G (nothing [])) (bounded (suc n) G (nothing [])) (Within_refl G) (bounded_grows G n))
+    (Within_refl (nothing []))

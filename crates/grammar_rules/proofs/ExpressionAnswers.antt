@@ -1,17 +1,15 @@
 -- What the parser's outcome says of the text, in the grammar's words.
-use Rattle.std.proofs.Common.{◌≡◌, ◌≢◌, ℕ, zero, suc, ◌+◌, ◌-◌, ◌<◌, ◌≤◌, Bool, true, false, List, [], ◌∷◌, ◌++◌, length, Option, Some, None, Result, Ok, Err, IfOk, IfSome, refl, sym, ap, ◌∙◌, subst, arith}
+use Rattle.std.proofs.Common.{◌≡◌, ◌≢◌, ℕ, ◌-◌, List, [], ◌∷◌, length, Option, Some, None, Result, Ok, Err, IfOk, IfSome, refl, subst, arith}
 use Rattle.grammar_rules.specs.declared.arithmetic.Token.{Token}
 use Rattle.grammar_rules.specs.declared.arithmetic.Expression.{Expression}
 use Rattle.grammar_rules.specs.declared.arithmetic.ParseError.{ParseError}
 use Rattle.grammar_rules.specs.declared.arithmetic.Failure.{Failure}
 use Rattle.grammar_rules.specs.declared.arithmetic.Failure.TheVariants.{Refused, Deep, Memory}
 use Rattle.grammar_rules.specs.Readers.{Outcome, found, failed, answer}
-use Rattle.grammar_rules.specs.Places.{RefusedThere, FaultyThere, Answer, value, refusal, Answers}
+use Rattle.grammar_rules.specs.Places.{RefusedThere, Answer, value, refusal, Answers}
 use Rattle.grammar_rules.specs.Expressions.{Limit, too_deep, expression, any_expression, brackets, sum}
 use Rattle.grammar_rules.specs.ExpressionReaders.{read_sum, read_brackets}
 use Rattle.grammar_rules.specs.Parsing.{answer_of, error_of, fault_of}
-use Rattle.grammar_rules.proofs.Clear.{Clear}
-use Rattle.grammar_rules.proofs.Reading.{Reads}
 use Rattle.grammar_rules.proofs.Answering.{answers}
 use Rattle.grammar_rules.proofs.OneAnswer.{one_answer}
 use Rattle.grammar_rules.specs.declared.arithmetic.ParseError.TheVariants.{Syntax}

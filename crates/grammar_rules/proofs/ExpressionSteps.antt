@@ -1,25 +1,24 @@
 -- The steps of the small grammar's parser, as equations of its readers.
-use Rattle.std.proofs.Common.{◌≡◌, ℕ, zero, suc, Bool, true, false, List, [], ◌∷◌, ◌++◌, drop, Option, Some, None, refl, sym, ap, ◌∙◌, subst}
+use Rattle.std.proofs.Common.{◌≡◌, ℕ, zero, suc, Bool, true, false, List, [], ◌∷◌, ◌++◌, drop, Option, Some, None, refl}
 use Rattle.grammar_rules.specs.declared.arithmetic.Token.{Token}
-use Rattle.grammar_rules.specs.declared.arithmetic.Token.TheVariants.{Number, Name, Plus, Comma, Open, Close}
 use Rattle.grammar_rules.specs.declared.arithmetic.Expression.{Expression}
-use Rattle.grammar_rules.specs.declared.arithmetic.Expression.TheVariants.{Literal, Sum, Call}
+use Rattle.grammar_rules.specs.declared.arithmetic.Expression.TheVariants.{Sum}
 use Rattle.grammar_rules.specs.Rules.{token, preceded_by}
-use Rattle.grammar_rules.specs.Readers.{Outcome, found, failed, and_then, read_made, starts, chosen, is_seen, read_fault, read_past, closed_by, read_before, read_many}
-use Rattle.grammar_rules.specs.Expressions.{Limit, too_deep, is_plus, is_comma, is_open, is_close, number, name, term, sum, brackets}
-use Rattle.grammar_rules.specs.ExpressionReaders.{BracketReaders, read_call, read_term, read_sum, read_list, read_enclosed, read_brackets, read_open}
+use Rattle.grammar_rules.specs.Readers.{Outcome, found, failed, and_then, read_made, starts, chosen, read_past, closed_by, read_many}
+use Rattle.grammar_rules.specs.Expressions.{Limit, too_deep, is_plus, is_comma, is_open, is_close, term, sum, brackets}
+use Rattle.grammar_rules.specs.ExpressionReaders.{read_term, read_sum, read_list, read_brackets, read_open}
 use Rattle.grammar_rules.proofs.Reading.{past_sight, reads-past}
 use Rattle.grammar_rules.proofs.Many.{Shrinks, shrinks, many_step, many_stop, many_fail}
 use Rattle.grammar_rules.proofs.ExpressionProofs.{term_sight, sum_sight, reads-term, reads-expression, brackets_read}
 
 -- what is behind an opening bracket, as the parser goes through it
 behind_open : {A : Type 0} (depth : ℕ) (b : Bool) (ts : List Token) (next : ℕ → List Token → Outcome Token Limit A)
-  → chosen b (next depth (drop 1 ts)) (failed None ts) ≡ and_then (chosen b (found depth (drop 1 ts)) (failed None ts)) next
+    → chosen b (next depth (drop 1 ts)) (failed None ts) ≡ and_then (chosen b (found depth (drop 1 ts)) (failed None ts)) next
 behind_open depth true ts next = refl
 behind_open depth false ts next = refl
 
 too_deep_open : {A : Type 0} (b : Bool) (ts : List Token) (next : ℕ → List Token → Outcome Token Limit A)
-  → chosen b (failed (Some too_deep) ts) (failed None ts) ≡ and_then (chosen b (failed (Some too_deep) ts) (failed None ts)) next
+    → chosen b (failed (Some too_deep) ts) (failed None ts) ≡ and_then (chosen b (failed (Some too_deep) ts) (failed None ts)) next
 too_deep_open true ts next = refl
 too_deep_open false ts next = refl
 
@@ -45,12 +44,12 @@ module _ (depth : ℕ) where
   less_term : Shrinks (read_past is_plus (read_term (read_brackets depth)))
   less_term =
       shrinks (preceded_by (token is_plus) (term (brackets depth))) (past_sight is_plus term_sight) (read_past is_plus (read_term (read_brackets depth)))
-        (reads-past is_plus (term (brackets depth)) term_sight (read_term (read_brackets depth)) (reads-term (brackets depth) (read_brackets depth) (brackets_read depth))) refl
+      (reads-past is_plus (term (brackets depth)) term_sight (read_term (read_brackets depth)) (reads-term (brackets depth) (read_brackets depth) (brackets_read depth))) refl
 
   less_sum : Shrinks (read_past is_comma (read_sum (read_brackets depth)))
   less_sum =
       shrinks (preceded_by (token is_comma) (sum (brackets depth))) (past_sight is_comma sum_sight) (read_past is_comma (read_sum (read_brackets depth)))
-        (reads-past is_comma (sum (brackets depth)) sum_sight (read_sum (read_brackets depth)) (reads-expression depth)) refl
+      (reads-past is_comma (sum (brackets depth)) sum_sight (read_sum (read_brackets depth)) (reads-expression depth)) refl
 
   pub terms_step : (so_far : List Expression) (ts : List Token) (a : Expression) (left : List Token) → starts is_plus ts ≡ true → read_term (read_brackets depth) (drop 1 ts) ≡ found a left → terms_left depth so_far ts ≡ terms_left depth (so_far ++ a ∷ []) left
   unfolding terms_left

@@ -1,18 +1,18 @@
 -- The members of the keyed numbers are read, and the steps of the loop that reads them.
-use Rattle.std.proofs.Common.{◌≡◌, ◌<◌, ℕ, ◌&&◌, ◌||◌, ◌-◌, not, Bool, true, false, nat_eq, List, [], ◌∷◌, ◌++◌, length, drop, slice_get, Option, Some, None, is_some, IfSome, refl, sym, ap, ◌∙◌, subst, eq-eqb, eqb-true, arith}
+use Rattle.std.proofs.Common.{◌≡◌, ◌<◌, ℕ, ◌&&◌, ◌||◌, ◌-◌, not, Bool, true, false, nat_eq, List, [], ◌∷◌, ◌++◌, length, Option, Some, None, IfSome, refl, sym, ap, ◌∙◌, subst, eq-eqb, eqb-true, arith}
 use mathlib.Core.Path.{fun_ext}
 use Rattle.std.proofs.lemmas.List.Folds.{list_any-append}
 use Rattle.std.specs.List.{list_any}
 use Rattle.grammar_rules.specs.declared.keyed.Sign.{Sign}
 use Rattle.grammar_rules.specs.declared.keyed.Sign.TheVariants.{Key, Value}
-use Rattle.grammar_rules.specs.Rules.{Rule, token, terminal, preceded_by, members, without}
-use Rattle.grammar_rules.specs.Readers.{Outcome, found, failed, read_made, read_terminal, read_past, starts, chosen, is_seen, is_free, read_member, read_named, read_members, answer}
+use Rattle.grammar_rules.specs.Rules.{terminal, without}
+use Rattle.grammar_rules.specs.Readers.{Outcome, found, failed, read_made, read_terminal, starts, is_free, read_member, read_members, answer}
 use Rattle.grammar_rules.specs.Places.{Answer, value, refusal, Answers}
 use Rattle.grammar_rules.specs.KeyedNumbers.{is_key, number_of, entry, entries, key_of, read_entry, is_new}
-use Rattle.grammar_rules.proofs.Clear.{Sight, Clear}
+use Rattle.grammar_rules.proofs.Clear.{Sight}
 use Rattle.grammar_rules.proofs.Terminals.{terminal_sight}
 use Rattle.grammar_rules.proofs.Reading.{Reads, past_sight, reads-past, reads-terminal}
-use Rattle.grammar_rules.proofs.Members.{Named, members_sight, shrinks-member}
+use Rattle.grammar_rules.proofs.Members.{Named, members_sight}
 use Rattle.grammar_rules.proofs.AnyOrder.{reads-members, less_member, members_step, members_stop, members_fail}
 use Rattle.grammar_rules.proofs.Answering.{answers}
 use Rattle.grammar_rules.proofs.OneAnswer.{one_answer}

@@ -1,10 +1,8 @@
 -- Rules with limits, part by part, and what their answers say of the rules without.
-use Rattle.std.proofs.Common.{◌≡◌, ℕ, zero, suc, ◌+◌, ◌<◌, ◌≤◌, ◌⊎◌, Bool, true, false, List, [], ◌∷◌, ◌++◌, length, take, Option, Some, None, refl, sym, ap, ◌∙◌, subst, inl, inr, append_assoc, append-nil, arith, length-append, zero-add, suc-add, if◌then◌else◌}
-use Rattle.grammar_rules.specs.Rules.{Rule, Last, fits, faulty, Verdict, takes, faults, refuses, Joined, terminal, nothing, made, sequence, alternatives, either, one_of_two, optional, headed, ◌&◌, bounded, many, at_most, fault, FrontOfOne, SpelledByOne, MeetsFault, Limits}
-use Rattle.grammar_rules.specs.Places.{RefusedThere, FaultyThere, FirstFault, Answer, value, refusal, Answers}
-use Rattle.grammar_rules.proofs.Lists.{Cut, beyond, equal, inside, cut}
-use Rattle.grammar_rules.proofs.Clear.{Closed, Sight, Clear}
-use Rattle.grammar_rules.proofs.Alternatives.{cons_not_nil, Within, to_sum_right}
+use Rattle.std.proofs.Common.{◌≡◌, ℕ, zero, suc, ◌+◌, ◌⊎◌, Bool, true, false, List, [], ◌∷◌, ◌++◌, Some, None, refl, sym, ap, ◌∙◌, inl, inr, append_assoc, if◌then◌else◌}
+use Rattle.grammar_rules.specs.Rules.{Rule, Last, fits, faulty, takes, faults, refuses, nothing, made, sequence, alternatives, either, one_of_two, optional, headed, ◌&◌, bounded, many, fault, MeetsFault, Limits}
+use Rattle.grammar_rules.proofs.Clear.{Closed}
+use Rattle.grammar_rules.proofs.Alternatives.{Within, to_sum_right}
 
 pub limits_refl : {T K A : Type 0} (G : Rule T K A) → Limits G G
 limits_refl G = record { spells = λ a ts w. w; front = λ ts f. f; spelled = λ a ts w. inl w; fronted = λ m ts f. inl f }
@@ -175,7 +173,7 @@ pub limits-bounded : {T K A : Type 0} (n : ℕ) (G H : Rule T K A) (end end' : R
 limits-bounded zero G H end end' l e = e
 limits-bounded (suc n) G H end end' l e =
     limits-either (headed G (bounded n G end)) (headed H (bounded n H end')) (nothing []) (nothing [])
-      (limits-headed G H (bounded n G end) (bounded n H end') l (limits-bounded n G H end end' l e)) (limits_refl (nothing []))
+    (limits-headed G H (bounded n G end) (bounded n H end') l (limits-bounded n G H end end' l e)) (limits_refl (nothing []))
 
 pub limits-many : {T K A : Type 0} (G H : Rule T K A) → Limits G H → Limits (many G) (many H)
 limits-many G H l =

@@ -1,9 +1,9 @@
 -- What the answers of a rule with limits say of the rule without.
-use Rattle.std.proofs.Common.{◌≡◌, ℕ, zero, suc, ◌+◌, ◌<◌, ◌≤◌, List, [], ◌∷◌, ◌++◌, length, take, drop, Option, Some, None, refl, sym, ap, ◌∙◌, subst, inl, inr, append_assoc, append-nil, arith, add-one, take-append-drop, length-drop}
+use Rattle.std.proofs.Common.{◌≡◌, ℕ, zero, suc, ◌<◌, List, [], ◌∷◌, ◌++◌, length, take, drop, refl, sym, ap, ◌∙◌, subst, inl, inr, append_assoc, append-nil, arith, add-one, take-append-drop}
 use Rattle.grammar_rules.specs.Rules.{Rule, Last, fits, faulty, MeetsFault, Limits}
-use Rattle.grammar_rules.specs.Places.{RefusedThere, FaultyThere}
+use Rattle.grammar_rules.specs.Places.{RefusedThere}
 use Rattle.grammar_rules.proofs.Lists.{Cut, beyond, equal, inside, cut}
-use Rattle.grammar_rules.proofs.Clear.{Closed, Sight, Clear}
+use Rattle.grammar_rules.proofs.Clear.{Sight, Clear}
 use Rattle.grammar_rules.proofs.Right.{Stops}
 
 take_next : {T : Type 0} (p : ℕ) (ts : List T) (t : T) (r : List T) → drop p ts ≡ t ∷ r → (take (suc p) ts ≡ take p ts ++ t ∷ []) × (p < length ts)
@@ -43,15 +43,15 @@ module _ {T K A : Type 0} (G H : Rule T K A) (s : Sight T) (g : Clear G s) (l : 
   refused_too : (t : T) (r : List T) → drop p ts ≡ t ∷ r → (m : Last K) → H.Front m (take p ts ++ t ∷ []) → ⊥
   refused_too t r e m f =
       elim (l.fronted m (take p ts ++ t ∷ []) f) [
-        inl h ↦ stops t r m [] e h
-      | inr w ↦ no_fault (t ∷ []) (λ u y q. let k : t ≡ u = cc in (r, e ∙ ap (λ z. z ∷ r) k)) w
+        | inl h ↦ stops t r m [] e h
+        | inr w ↦ no_fault (t ∷ []) (λ u y q. let k : t ≡ u = cc in (r, e ∙ ap (λ z. z ∷ r) k)) w
       ]
 
   unspelled_too : (a : A) → H.Spells a ts → ⊥
   unspelled_too a h =
       elim (l.spelled a ts h) [
-        inl w ↦ x.unspelled a w
-      | inr w ↦ no_fault (drop p ts) (λ u y q. (y, q)) (subst (λ z. MeetsFault G z) (sym (take-append-drop p ts)) w)
+        | inl w ↦ x.unspelled a w
+        | inr w ↦ no_fault (drop p ts) (λ u y q. (y, q)) (subst (λ z. MeetsFault G z) (sym (take-append-drop p ts)) w)
       ]
 
   -- what the limited rule refuses the other refuses, at the same place
@@ -60,7 +60,7 @@ module _ {T K A : Type 0} (G H : Rule T K A) (s : Sight T) (g : Clear G s) (l : 
     within = x.within;
     front = l.front (take p ts) x.front;
     refused = λ q m f.
-      let d = drop_some p ts q in
-      refused_too d.0 d.1 d.2 m (subst (λ z. H.Front m z) (ap (λ n. take n ts) (add-one p) ∙ (take_next p ts d.0 d.1 d.2).0) f);
+        let d = drop_some p ts q in
+        refused_too d.0 d.1 d.2 m (subst (λ z. H.Front m z) (ap (λ n. take n ts) (add-one p) ∙ (take_next p ts d.0 d.1 d.2).0) f);
     unspelled = unspelled_too;
   }

@@ -1,5 +1,5 @@
 -- Two cuts of one list, and tests that are joined.
-use Rattle.std.proofs.Common.{◌≡◌, ◌||◌, ◌&&◌, Bool, true, false, List, [], ◌∷◌, ◌++◌, refl, sym, ap, ◌∙◌}
+use Rattle.std.proofs.Common.{◌≡◌, ◌||◌, ◌&&◌, Bool, true, false, List, [], ◌∷◌, ◌++◌, refl, sym}
 
 -- where the cut of c ++ d lies in a ++ b: behind a's end, at it, or before it
 pub data Cut {T : Type 0} (a b c d : List T) : Type 0 where

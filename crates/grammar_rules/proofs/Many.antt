@@ -1,13 +1,12 @@
 -- A repetition without a bound, and the steps of a loop that reads it.
-use Rattle.std.proofs.Common.{◌≡◌, ℕ, zero, suc, ◌+◌, ◌<◌, ◌≤◌, ◌||◌, ◌&&◌, Bool, true, false, List, [], ◌∷◌, ◌++◌, length, Option, Some, None, refl, sym, ap, ◌∙◌, subst, inl, inr, append_assoc, append-nil, arith, length-append}
-use Rattle.grammar_rules.specs.Rules.{Rule, nothing, alternatives, bounded, many}
+use Rattle.std.proofs.Common.{◌≡◌, ℕ, zero, suc, ◌+◌, ◌<◌, ◌||◌, ◌&&◌, Bool, true, false, List, [], ◌∷◌, ◌++◌, length, Option, refl, ap, subst, inl, inr, append_assoc, append-nil, arith, length-append}
+use Rattle.grammar_rules.specs.Rules.{Rule, nothing, bounded, many}
 use Rattle.grammar_rules.specs.Readers.{Outcome, found, failed, and_then, read_made, starts, chosen, read_bounded, read_many}
-use Rattle.grammar_rules.proofs.Lists.{or_left, or_right}
 use Rattle.grammar_rules.proofs.Clear.{Sight, Clear}
 use Rattle.grammar_rules.proofs.Alternatives.{clear-growing}
-use Rattle.grammar_rules.proofs.Terminals.{nothing_sight, clear-nothing, Sees, clear-wider}
+use Rattle.grammar_rules.proofs.Terminals.{nothing_sight, clear-nothing, clear-wider}
 use Rattle.grammar_rules.proofs.Right.{FoundAt, Right, right-nothing}
-use Rattle.grammar_rules.proofs.Reading.{Reads, or_cases}
+use Rattle.grammar_rules.proofs.Reading.{Reads}
 use Rattle.grammar_rules.proofs.Repetitions.{wide_sight, clear_wide, right-bounded}
 use Rattle.grammar_rules.proofs.Families.{right-growing}
 use Rattle.grammar_rules.proofs.Depths.{bounded_grows}
@@ -27,8 +26,8 @@ shrinks G s read g wants ts a left e =
 
 module _ {T K A : Type 0} (test : T → Bool) (read : List T → Outcome T K A) (less : Shrinks read) where
   stable_step : (stop : List T → Outcome T K (List A)) (n m : ℕ) (ts : List T) (o : Outcome T K A) → read ts ≡ o
-    → ((left : List T) → length left < length ts → read_bounded n test read stop left ≡ read_bounded m test read stop left)
-    → and_then o (λ a left. read_made (λ rest. a ∷ rest) (read_bounded n test read stop left)) ≡ and_then o (λ a left. read_made (λ rest. a ∷ rest) (read_bounded m test read stop left))
+      → ((left : List T) → length left < length ts → read_bounded n test read stop left ≡ read_bounded m test read stop left)
+      → and_then o (λ a left. read_made (λ rest. a ∷ rest) (read_bounded n test read stop left)) ≡ and_then o (λ a left. read_made (λ rest. a ∷ rest) (read_bounded m test read stop left))
   stable_step stop n m ts (found a left) e rec = ap (read_made (λ rest. a ∷ rest)) (rec left (less ts a left e))
   stable_step stop n m ts (failed k left) e rec = refl
 
@@ -38,10 +37,10 @@ module _ {T K A : Type 0} (test : T → Bool) (read : List T → Outcome T K A) 
   stable stop (suc n) zero ts p q = absurd (omega arith)
   stable stop (suc n) (suc m) ts p q =
       ap (λ o. chosen (starts test ts) o (found [] ts))
-        (stable_step stop n m ts (read ts) refl (λ left l. stable stop n m left (omega arith) (omega arith)))
+      (stable_step stop n m ts (read ts) refl (λ left l. stable stop n m left (omega arith) (omega arith)))
 
   unrolled_step : (ts : List T) (o : Outcome T K A) → read ts ≡ o
-    → and_then o (λ a left. read_made (λ rest. a ∷ rest) (read_bounded (length ts) test read (λ rest. found [] rest) left)) ≡ and_then o (λ a left. read_made (λ rest. a ∷ rest) (read_many test read left))
+      → and_then o (λ a left. read_made (λ rest. a ∷ rest) (read_bounded (length ts) test read (λ rest. found [] rest) left)) ≡ and_then o (λ a left. read_made (λ rest. a ∷ rest) (read_many test read left))
   unfolding read_many
   unrolled_step ts (found a left) e =
       ap (read_made (λ rest. a ∷ rest)) (stable (λ rest. found [] rest) (length ts) (suc (length left)) left (less ts a left e) (omega arith))
@@ -58,7 +57,7 @@ module _ {T K A : Type 0} (test : T → Bool) (read : List T → Outcome T K A) 
 
   -- the steps of a loop that has read the list `so_far`: one more, the end, and a failure
   pub many_step : (so_far : List A) (ts : List T) (a : A) (left : List T) → starts test ts ≡ true → read ts ≡ found a left
-    → read_made (λ rest. so_far ++ rest) (read_many test read ts) ≡ read_made (λ rest. (so_far ++ a ∷ []) ++ rest) (read_many test read left)
+      → read_made (λ rest. so_far ++ rest) (read_many test read ts) ≡ read_made (λ rest. (so_far ++ a ∷ []) ++ rest) (read_many test read left)
   many_step so_far ts a left e f =
       rw (read_many-unrolled ts, e, f) (joined_twice so_far (a ∷ []) (read_many test read left))
 
@@ -66,7 +65,7 @@ module _ {T K A : Type 0} (test : T → Bool) (read : List T → Outcome T K A) 
   many_stop so_far ts e = rw (read_many-unrolled ts, e, append-nil)
 
   pub many_fail : (so_far : List A) (ts : List T) (k : Option K) (left : List T) → starts test ts ≡ true → read ts ≡ failed k left
-    → read_made (λ rest. so_far ++ rest) (read_many test read ts) ≡ failed k left
+      → read_made (λ rest. so_far ++ rest) (read_many test read ts) ≡ failed k left
   many_fail so_far ts k left e f = rw (read_many-unrolled ts, e, f)
 
 -- the lookahead of a repetition
@@ -84,20 +83,20 @@ module _ {T K A : Type 0} (G : Rule T K A) (s : Sight T) (read : List T → Outc
   clear_many : Clear (many G) (many_sight s)
   clear_many =
       clear-wider (many G) (wide_sight s nothing_sight) (many_sight s)
-        (record {
-          first = λ x e. or_false (s.first x) e;
-          null = λ e. refl;
-          more = λ x e. or_false (s.first x || s.more x) e;
-        })
-        (clear-growing (λ n. bounded n G (nothing [])) (bounded_grows G) (wide_sight s nothing_sight)
-          (λ n. clear_wide G s (nothing []) nothing_sight g.clear (clear-nothing []) wants loops no_first n))
+      (record {
+        first = λ x e. or_false (s.first x) e;
+        null = λ e. refl;
+        more = λ x e. or_false (s.first x || s.more x) e;
+      })
+      (clear-growing (λ n. bounded n G (nothing [])) (bounded_grows G) (wide_sight s nothing_sight)
+      (λ n. clear_wide G s (nothing []) nothing_sight g.clear (clear-nothing []) wants loops no_first n))
 
   right_many : (ts : List T) → Right (many G) ts (read_many s.first read ts)
   unfolding read_many
   right_many ts =
       right-growing (λ n. bounded n G (nothing [])) (bounded_grows G) ts (suc (length ts)) (read_many s.first read ts)
-        (λ k. rw (stable s.first read (shrinks G s read g wants) (λ rest. found [] rest) (suc (length ts)) (suc (length ts) + k) ts (omega arith) (omega arith))
-          (right-bounded G s (nothing []) nothing_sight g.clear (clear-nothing []) wants loops no_first read (λ rest. found [] rest) g.exact g.right (λ rest. right-nothing [] rest) (suc (length ts) + k) ts))
+      (λ k. rw (stable s.first read (shrinks G s read g wants) (λ rest. found [] rest) (suc (length ts)) (suc (length ts) + k) ts (omega arith) (omega arith))
+      (right-bounded G s (nothing []) nothing_sight g.clear (clear-nothing []) wants loops no_first read (λ rest. found [] rest) g.exact g.right (λ rest. right-nothing [] rest) (suc (length ts) + k) ts))
 
   pub reads-many : Reads (many G) (many_sight s) (read_many s.first read)
   reads-many = record {

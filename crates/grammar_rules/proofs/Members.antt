@@ -1,17 +1,12 @@
 -- Members in any order, each at most once.
-use Rattle.std.proofs.Common.{◌≡◌, ℕ, zero, suc, ◌+◌, ◌<◌, ◌≤◌, ◌||◌, ◌&&◌, ◌⊎◌, not, Bool, true, false, List, [], ◌∷◌, ◌++◌, length, Option, Some, None, is_some, refl, sym, ap, ◌∙◌, subst, inl, inr, append_assoc, append-nil, arith, length-append}
-use Rattle.grammar_rules.specs.Rules.{Rule, Last, fits, faulty, nothing, made, sequence, alternatives, either, one_of_two, allowed, member, without, some_members, members, never}
-use Rattle.grammar_rules.specs.Readers.{Outcome, found, failed, and_then, read_made, starts, chosen, is_free, read_named, read_member, read_some_members, read_members}
-use Rattle.grammar_rules.proofs.Lists.{or_left, or_right, and_both}
-use Rattle.grammar_rules.proofs.Clear.{Closed, Sight, Clear}
-use Rattle.grammar_rules.proofs.Alternatives.{cons_not_nil, Within, Within_refl, Parted, clear-alternatives, closed-alternatives, clear-growing}
-use Rattle.grammar_rules.proofs.Sequences.{Apart, sequence_sight, clear-sequence}
-use Rattle.grammar_rules.proofs.Terminals.{terminal_sight, clear-terminal, nothing_sight, clear-nothing, clear-made, Sees, clear-wider}
-use Rattle.grammar_rules.proofs.Right.{Stops, FoundAt, RefusedAt, FaultAt, Right, right-nothing, right-made, right-sequence}
-use Rattle.grammar_rules.proofs.Reading.{Exact, Reads, right-alternative, or_cases, and_first, and_second}
-use Rattle.grammar_rules.proofs.Choices.{either_sight, Distinct, clear-either, right-either}
-use Rattle.grammar_rules.proofs.Families.{right-growing}
-use Rattle.grammar_rules.proofs.Depths.{within-member, within-either, within-sequence, within-made}
+use Rattle.std.proofs.Common.{◌≡◌, ◌<◌, ◌||◌, ◌&&◌, Bool, true, false, List, [], ◌∷◌, ◌++◌, length, Option, Some, None, is_some, refl, sym, ap, ◌∙◌, subst, inl, inr, arith, length-append}
+use Rattle.grammar_rules.specs.Rules.{Rule, Last, made, allowed, member}
+use Rattle.grammar_rules.specs.Readers.{Outcome, failed, read_made, starts, chosen, is_free, read_named, read_member}
+use Rattle.grammar_rules.proofs.Clear.{Sight, Clear}
+use Rattle.grammar_rules.proofs.Alternatives.{Parted, clear-alternatives}
+use Rattle.grammar_rules.proofs.Terminals.{clear-terminal, clear-made}
+use Rattle.grammar_rules.proofs.Right.{FoundAt, Right, right-made}
+use Rattle.grammar_rules.proofs.Reading.{Exact, right-alternative}
 use Rattle.grammar_rules.proofs.Many.{Shrinks}
 
 -- the lookahead of a rule where it is allowed
@@ -105,9 +100,9 @@ module _ {T K A I : Type 0} (G : I → Rule T K A) (each : I → Sight T) (which
       is = refl;
       front = inl (refl, refl);
       stops = λ t r m x q f.
-        let a : starts (λ t. is_free free (which t)) (t ∷ r) ≡ false = subst (λ l. starts (λ t. is_free free (which t)) l ≡ false) q e in
-        let b = (clear-member free).starts m t x f in
-        let c : true ≡ false = sym b ∙ a in cc;
+          let a : starts (λ t. is_free free (which t)) (t ∷ r) ≡ false = subst (λ l. starts (λ t. is_free free (which t)) l ≡ false) q e in
+          let b = (clear-member free).starts m t x f in
+          let c : true ≡ false = sym b ∙ a in cc;
       unspelled = λ a w. let b = (clear-member free).empty a w in cc;
     }
 
@@ -120,11 +115,11 @@ module _ {T K A I : Type 0} (G : I → Rule T K A) (each : I → Sight T) (which
     right_free : (free : I → Bool) (i : I) (t : T) (ts : List T) → which t ≡ Some i → (b : Bool) → free i ≡ b → Right (member G free) (t ∷ ts) (chosen b (read_made (λ a. (i, a)) (read i (t ∷ ts))) (failed None (t ∷ ts)))
     right_free free i t ts q true e =
         right-alternative (λ j. made (λ a. (j, a)) (allowed (free j) (G j))) (λ j. (clear_one free j).fronts) i (t ∷ ts)
-          (only_named free i t ts q)
-          (λ j a w. absurd (null_allowed free j (free j) ((clear_one free j).empty a w)))
-          (read_made (λ a. (i, a)) (read i (t ∷ ts)))
-          (right-made (λ a. (i, a)) (allowed (free i) (G i)) (t ∷ ts) (read i (t ∷ ts))
-            (subst (λ b. Right (allowed b (G i)) (t ∷ ts) (read i (t ∷ ts))) (sym e) (right i (t ∷ ts))))
+        (only_named free i t ts q)
+        (λ j a w. absurd (null_allowed free j (free j) ((clear_one free j).empty a w)))
+        (read_made (λ a. (i, a)) (read i (t ∷ ts)))
+        (right-made (λ a. (i, a)) (allowed (free i) (G i)) (t ∷ ts) (read i (t ∷ ts))
+        (subst (λ b. Right (allowed b (G i)) (t ∷ ts) (read i (t ∷ ts))) (sym e) (right i (t ∷ ts))))
     right_free free i t ts q false e = refused_member free (t ∷ ts) (rw (q, e))
 
     right_named : (free : I → Bool) (t : T) (ts : List T) (o : Option I) → which t ≡ o → Right (member G free) (t ∷ ts) (read_named read free o (t ∷ ts))

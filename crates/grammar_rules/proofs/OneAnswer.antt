@@ -1,8 +1,8 @@
 -- A rule that one symbol of lookahead can tell gives each text at most one answer.
-use Rattle.std.proofs.Common.{◌≡◌, ℕ, zero, suc, ◌+◌, ◌-◌, ◌<◌, ◌≤◌, Bool, true, false, List, [], ◌∷◌, ◌++◌, length, take, drop, Option, Some, None, refl, sym, ap, ◌∙◌, subst, append-nil, arith, add-one, take_all, le_refl}
+use Rattle.std.proofs.Common.{◌≡◌, ℕ, zero, suc, ◌+◌, ◌<◌, ◌≤◌, List, [], ◌∷◌, length, take, Some, None, refl, sym, ap, subst, append-nil, arith, take_all, le_refl}
 use Rattle.grammar_rules.specs.Rules.{Rule, Last, fits, faulty}
-use Rattle.grammar_rules.specs.Places.{RefusedThere, FaultyThere, FirstFault, Answer, value, refusal, Answers}
-use Rattle.grammar_rules.proofs.Clear.{Closed, Sight, Clear}
+use Rattle.grammar_rules.specs.Places.{RefusedThere, FaultyThere, Answer, value, refusal, Answers}
+use Rattle.grammar_rules.proofs.Clear.{Sight, Clear}
 use Rattle.grammar_rules.proofs.Answering.{longer_front}
 
 -- one place is before, at or behind another

@@ -1,13 +1,13 @@
 -- A rule, its lookahead and a reader that is right for it, and how these are put together.
-use Rattle.std.proofs.Common.{◌≡◌, ◌||◌, ◌&&◌, ◌⊎◌, Bool, true, false, List, [], ◌∷◌, ◌++◌, drop, if◌then◌else◌, Option, Some, None, refl, sym, ap, ◌∙◌, subst, inl, inr, append_assoc, append-nil}
-use Rattle.grammar_rules.specs.Rules.{Rule, Last, fits, faulty, Joined, Verdict, takes, faults, refuses, terminal, nothing, made, sequence, alternatives, either, one_of_two, optional, headed, ◌&◌, token, fault, preceded_by, followed_by}
-use Rattle.grammar_rules.specs.Readers.{Outcome, found, failed, and_then, read_made, read_symbol, read_terminal, starts, chosen, is_seen, read_fault, read_past, closed_by, read_before, read_pair, read_headed, read_either, read_optional}
-use Rattle.grammar_rules.proofs.Lists.{or_left, or_right, and_both, apart}
-use Rattle.grammar_rules.proofs.Clear.{Closed, Sight, Clear, fault-nil}
-use Rattle.grammar_rules.proofs.Alternatives.{cons_not_nil, Within, Parted, clear-alternatives, same_member}
+use Rattle.std.proofs.Common.{◌≡◌, ◌||◌, ◌&&◌, ◌⊎◌, Bool, true, false, List, [], ◌∷◌, ◌++◌, if◌then◌else◌, Some, None, refl, sym, ◌∙◌, subst, inl, inr}
+use Rattle.grammar_rules.specs.Rules.{Rule, Last, fits, faulty, Verdict, takes, faults, refuses, terminal, nothing, made, sequence, alternatives, headed, ◌&◌, token, fault, preceded_by, followed_by}
+use Rattle.grammar_rules.specs.Readers.{Outcome, found, failed, and_then, read_made, read_symbol, read_terminal, chosen, is_seen, read_fault, read_past, closed_by, read_before, read_pair, read_headed}
+use Rattle.grammar_rules.proofs.Lists.{or_left}
+use Rattle.grammar_rules.proofs.Clear.{Closed, Sight, Clear}
+use Rattle.grammar_rules.proofs.Alternatives.{cons_not_nil}
 use Rattle.grammar_rules.proofs.Sequences.{Apart, sequence_sight, clear-sequence}
 use Rattle.grammar_rules.proofs.Terminals.{terminal_sight, clear-terminal, nothing_sight, clear-nothing, clear-made, Sees, clear-wider}
-use Rattle.grammar_rules.proofs.Right.{Stops, FoundAt, RefusedAt, FaultAt, Right, right-nothing, right-terminal, right-made, right-sequence}
+use Rattle.grammar_rules.proofs.Right.{Stops, Right, right-nothing, right-terminal, right-made, right-sequence}
 
 -- each symbol that passes the test is a front or a fault
 abbrev pub Exact : {T K A : Type 0} → Rule T K A → (T → Bool) → Type 0
@@ -95,8 +95,8 @@ reads-headed G H s t read next g h off =
 
 -- the outcome of the member i is right for all, where no other member begins so
 module _ {T K A I : Type 0} (G : I → Rule T K A) (closed : (i : I) → Closed (G i)) (i : I) (ts : List T)
-  (only : (j : I) (m : Last K) (t : T) (r x : List T) → ts ≡ t ∷ r → (G j).Front m (t ∷ x) → j ≡ i)
-  (nulls : (j : I) (a : A) → (G j).Spells a [] → (j ≡ i) ⊎ ((t : T) × (r : List T) × (m : Last K) × (ts ≡ t ∷ r) × (G i).Front m (t ∷ []))) where
+    (only : (j : I) (m : Last K) (t : T) (r x : List T) → ts ≡ t ∷ r → (G j).Front m (t ∷ x) → j ≡ i)
+    (nulls : (j : I) (a : A) → (G j).Spells a [] → (j ≡ i) ⊎ ((t : T) × (r : List T) × (m : Last K) × (ts ≡ t ∷ r) × (G i).Front m (t ∷ []))) where
   stops_all : (pre left : List T) → ts ≡ pre ++ left → Stops (G i) pre left → Stops (alternatives G) pre left
   stops_all pre left is st t r m x e (inl f) = cons_not_nil pre t x f.1
   stops_all [] left is st t r m x e (inr f) =
@@ -107,8 +107,8 @@ module _ {T K A I : Type 0} (G : I → Rule T K A) (closed : (i : I) → Closed 
   unspelled_all : (pre left : List T) → ts ≡ pre ++ left → Stops (G i) pre left → ((a : A) → (G i).Spells a pre → ⊥) → (j : I) (a : A) → (G j).Spells a pre → ⊥
   unspelled_all [] left is st un j a w =
       elim (nulls j a w) [
-        inl e ↦ un a (subst (λ z. (G z).Spells a []) e w)
-      | inr f ↦ st f.0 f.1 f.2 [] (sym is ∙ f.3) f.4
+        | inl e ↦ un a (subst (λ z. (G z).Spells a []) e w)
+        | inr f ↦ st f.0 f.1 f.2 [] (sym is ∙ f.3) f.4
       ]
   unspelled_all (u ∷ pre) left is st un j a w =
       un a (subst (λ z. (G z).Spells a (u ∷ pre)) (only j fits u (pre ++ left) pre is ((closed j).spelled a (u ∷ pre) w)) w)
@@ -155,7 +155,7 @@ module _ {T : Type 0} (test : T → Bool) where
 pub reads-token : {T K : Type 0} (test : T → Bool) → Reads (token {T = T} {K = K} test) (token_sight test) (read_terminal (λ t. if test t then takes t else refuses))
 reads-token {T = T} {K = K} test =
     subst (λ s. Reads (token {T = T} {K = K} test) s (read_terminal (λ t. if test t then takes t else refuses))) (sight_token test K)
-      (reads-terminal (λ t. if test t then takes t else refuses))
+    (reads-terminal (λ t. if test t then takes t else refuses))
 
 fault_symbol : {T K A : Type 0} (k : K) (b : Bool) (t : T) (ts : List T) → read_symbol {A = A} (if b then faults k else refuses) t ts ≡ chosen b (failed (Some k) (t ∷ ts)) (failed None (t ∷ ts))
 fault_symbol k true t ts = refl
@@ -168,8 +168,8 @@ fault_reader k test (t ∷ ts) = fault_symbol k (test t) t ts
 pub reads-fault : {T K : Type 0} (A : Type 0) (k : K) (test : T → Bool) → Reads (fault {A = A} k test) (token_sight test) (read_fault k test)
 reads-fault A k test =
     reads_as (fault {A = A} k test) (token_sight test) (read_terminal (λ t. if test t then faults k else refuses)) (read_fault k test) (fault_reader k test)
-      (subst (λ s. Reads (fault {A = A} k test) s (read_terminal (λ t. if test t then faults k else refuses))) (sight_fault test A k)
-        (reads-terminal (λ t. if test t then faults k else refuses)))
+    (subst (λ s. Reads (fault {A = A} k test) s (read_terminal (λ t. if test t then faults k else refuses))) (sight_fault test A k)
+    (reads-terminal (λ t. if test t then faults k else refuses)))
 
 -- another lookahead that sees the same first symbols, and no less behind
 pub reads_seen : {T K A : Type 0} (G : Rule T K A) (s t : Sight T) (read : List T → Outcome T K A) → Sees s t → ((x : T) → t.first x ≡ true → s.first x ≡ true) → (t.null ≡ true → s.null ≡ true) → Reads G s read → Reads G t read
@@ -208,16 +208,16 @@ module _ {T K A : Type 0} (test : T → Bool) (G : Rule T K A) (s : Sight T) (re
   pub reads-past : Reads (preceded_by (token test) G) (past_sight test s) (read_past test read)
   reads-past =
       reads_seen (preceded_by (token test) G) (sequence_sight (token_sight test) s) (past_sight test s) (read_past test read)
-        (record {
-          first = λ x e. or_false (test x) e;
-          null = λ e. e;
-          more = λ x e. more_past x (or_cases (s.more x) (s.null && false) e);
-        })
-        (λ x e. or_left (test x) false e)
-        (λ e. e)
-        (reads_as (preceded_by (token test) G) (sequence_sight (token_sight test) s) (λ ts. and_then (read_terminal (λ t. if test t then takes t else refuses) ts) (λ a left. read left)) (read_past test read) (past_reader test read)
-          (reads-sequence (token test) (λ t. G) (token_sight test) s (read_terminal (λ t. if test t then takes t else refuses)) (λ t left. read left)
-            (reads-token test) (λ t. g) (λ x. refl)))
+      (record {
+        first = λ x e. or_false (test x) e;
+        null = λ e. e;
+        more = λ x e. more_past x (or_cases (s.more x) (s.null && false) e);
+      })
+      (λ x e. or_left (test x) false e)
+      (λ e. e)
+      (reads_as (preceded_by (token test) G) (sequence_sight (token_sight test) s) (λ ts. and_then (read_terminal (λ t. if test t then takes t else refuses) ts) (λ a left. read left)) (read_past test read) (past_reader test read)
+      (reads-sequence (token test) (λ t. G) (token_sight test) s (read_terminal (λ t. if test t then takes t else refuses)) (λ t left. read left)
+      (reads-token test) (λ t. g) (λ x. refl)))
 
 -- the lookahead before a symbol that passes a test
 abbrev pub before_sight : {T : Type 0} → Sight T → Sight T
@@ -243,16 +243,16 @@ module _ {T K A : Type 0} (G : Rule T K A) (s : Sight T) (read : List T → Outc
   pub reads-before : Reads (followed_by G (token test)) (before_sight s) (read_before test read)
   reads-before =
       reads_seen (followed_by G (token test)) (sequence_sight s (token_sight test)) (before_sight s) (read_before test read)
-        (record {
-          first = λ x e. first_before x (or_cases (s.first x) (s.null && test x) e);
-          null = λ e. and_second s.null false e;
-          more = λ x e. e;
-        })
-        (λ x e. or_left (s.first x) (s.null && test x) e)
-        (λ e. cc)
-        (reads_as (followed_by G (token test)) (sequence_sight s (token_sight test)) (λ ts. and_then (read ts) (λ a left. read_made (λ u. a) (read_terminal (λ t. if test t then takes t else refuses) left))) (read_before test read) (λ ts. before_outcome test (read ts))
-          (reads-sequence G (λ a. made (λ u. a) (token test)) s (token_sight test) read (λ a left. read_made (λ u. a) (read_terminal (λ t. if test t then takes t else refuses) left))
-            g (λ a. reads-made (λ u. a) (token test) (token_sight test) (read_terminal (λ t. if test t then takes t else refuses)) (reads-token test)) off))
+      (record {
+        first = λ x e. first_before x (or_cases (s.first x) (s.null && test x) e);
+        null = λ e. and_second s.null false e;
+        more = λ x e. e;
+      })
+      (λ x e. or_left (s.first x) (s.null && test x) e)
+      (λ e. cc)
+      (reads_as (followed_by G (token test)) (sequence_sight s (token_sight test)) (λ ts. and_then (read ts) (λ a left. read_made (λ u. a) (read_terminal (λ t. if test t then takes t else refuses) left))) (read_before test read) (λ ts. before_outcome test (read ts))
+      (reads-sequence G (λ a. made (λ u. a) (token test)) s (token_sight test) read (λ a left. read_made (λ u. a) (read_terminal (λ t. if test t then takes t else refuses) left))
+      g (λ a. reads-made (λ u. a) (token test) (token_sight test) (read_terminal (λ t. if test t then takes t else refuses)) (reads-token test)) off))
 
 -- the lookahead of a sequence whose first rule has no empty text
 abbrev pub then_sight : {T : Type 0} → Sight T → Sight T → Sight T
@@ -266,10 +266,10 @@ module _ {T K A : Type 0} (G : Rule T K A) (s t : Sight T) (read : List T → Ou
   pub reads_then : Reads G (sequence_sight s t) read → Reads G (then_sight s t) read
   reads_then g =
       reads_seen G (sequence_sight s t) (then_sight s t) read
-        (record {
-          first = λ x e. first_then x (or_cases (s.first x) (s.null && t.first x) e);
-          null = λ e. let f = and_first s.null t.null e in cc;
-          more = λ x e. e;
-        })
-        (λ x e. or_left (s.first x) (s.null && t.first x) e)
-        (λ e. cc) g
+      (record {
+        first = λ x e. first_then x (or_cases (s.first x) (s.null && t.first x) e);
+        null = λ e. let f = and_first s.null t.null e in cc;
+        more = λ x e. e;
+      })
+      (λ x e. or_left (s.first x) (s.null && t.first x) e)
+      (λ e. cc) g

@@ -1,17 +1,15 @@
 -- Repetitions, bounded and not.
-use Rattle.std.proofs.Common.{◌≡◌, ℕ, zero, suc, ◌+◌, ◌<◌, ◌≤◌, ◌||◌, ◌&&◌, ◌⊎◌, Bool, true, false, List, [], ◌∷◌, ◌++◌, length, Option, Some, None, refl, sym, ap, ◌∙◌, subst, inl, inr, append_assoc, append-nil, arith, length-append}
-use mathlib.Core.List.{append_cancel_right}
-use Rattle.grammar_rules.specs.Rules.{Rule, Last, fits, faulty, nothing, made, sequence, alternatives, either, one_of_two, headed, bounded, many}
-use Rattle.grammar_rules.specs.Readers.{Outcome, found, failed, and_then, read_made, starts, chosen, read_bounded, read_many}
-use Rattle.grammar_rules.proofs.Lists.{or_left, or_right, and_both, apart}
-use Rattle.grammar_rules.proofs.Clear.{Closed, Sight, Clear}
-use Rattle.grammar_rules.proofs.Alternatives.{cons_not_nil, Within, grown, to_sum_right, clear-growing}
-use Rattle.grammar_rules.proofs.Sequences.{Apart, sequence_sight, clear-sequence}
+use Rattle.std.proofs.Common.{◌≡◌, ℕ, zero, suc, ◌||◌, ◌&&◌, ◌⊎◌, Bool, true, false, List, [], ◌∷◌, refl, inl, inr}
+use Rattle.grammar_rules.specs.Rules.{Rule, Last, nothing, made, headed, bounded}
+use Rattle.grammar_rules.specs.Readers.{Outcome, found, and_then, read_made, read_bounded}
+use Rattle.grammar_rules.proofs.Lists.{or_left, or_right}
+use Rattle.grammar_rules.proofs.Clear.{Sight, Clear}
+use Rattle.grammar_rules.proofs.Alternatives.{cons_not_nil}
+use Rattle.grammar_rules.proofs.Sequences.{sequence_sight, clear-sequence}
 use Rattle.grammar_rules.proofs.Terminals.{nothing_sight, clear-nothing, clear-made, Sees, clear-wider}
-use Rattle.grammar_rules.proofs.Right.{Stops, FoundAt, RefusedAt, FaultAt, Right, right-nothing, right-made, right-sequence}
+use Rattle.grammar_rules.proofs.Right.{Right, right-nothing, right-made, right-sequence}
 use Rattle.grammar_rules.proofs.Reading.{Exact, Reads, or_cases, and_first, and_second}
-use Rattle.grammar_rules.proofs.Choices.{either_sight, Distinct, clear-either, right-either}
-use Rattle.grammar_rules.proofs.Depths.{bounded_grows}
+use Rattle.grammar_rules.proofs.Choices.{either_sight, clear-either, right-either}
 
 -- the lookahead of up to n of a rule and then an end, and of the end alone
 abbrev pub repeat_sight : {T : Type 0} → Sight T → Sight T → Sight T
@@ -44,11 +42,11 @@ module _ {T : Type 0} (s e : Sight T) (wants : s.null ≡ false) where
   headed_first : (x : T) → ((s.first x || (s.null && (wide_sight s e).first x)) || false) ≡ true → s.first x ≡ true
   headed_first x q =
       elim (or_cases (s.first x || (s.null && (wide_sight s e).first x)) false q) [
-        inl p ↦ elim (or_cases (s.first x) _ p) [
-            inl h ↦ h
+        | inl p ↦ elim (or_cases (s.first x) _ p) [
+          | inl h ↦ h
           | inr h ↦ let k = and_first s.null ((wide_sight s e).first x) h in cc
         ]
-      | inr p ↦ cc
+        | inr p ↦ cc
       ]
 
   headed_more : (x : T) → ((wide_sight s e).more x ≡ true) ⊎ (s.more x ≡ true) → (wide_sight s e).more x ≡ true
@@ -58,11 +56,11 @@ module _ {T : Type 0} (s e : Sight T) (wants : s.null ≡ false) where
   either_more : (x : T) → ((((wide_sight s e).more x || (true && s.more x)) || false) || (((s.null && true) || true) && ((s.first x || (s.null && (wide_sight s e).first x)) || false))) ≡ true → (wide_sight s e).more x ≡ true
   either_more x q =
       elim (or_cases (((wide_sight s e).more x || (true && s.more x)) || false) _ q) [
-        inl p ↦ elim (or_cases ((wide_sight s e).more x || (true && s.more x)) false p) [
-            inl h ↦ headed_more x (or_cases ((wide_sight s e).more x) (s.more x) h)
+        | inl p ↦ elim (or_cases ((wide_sight s e).more x || (true && s.more x)) false p) [
+          | inl h ↦ headed_more x (or_cases ((wide_sight s e).more x) (s.more x) h)
           | inr h ↦ cc
         ]
-      | inr p ↦ or_left (s.first x || s.more x) _ (or_left (s.first x) (s.more x) (headed_first x (and_second ((s.null && true) || true) _ p)))
+        | inr p ↦ or_left (s.first x || s.more x) _ (or_left (s.first x) (s.more x) (headed_first x (and_second ((s.null && true) || true) _ p)))
       ]
 
   sees_repeat : Sees (either_sight (sequence_sight s (wide_sight s e)) nothing_sight) (repeat_sight s e)
@@ -76,30 +74,30 @@ module _ {T K A : Type 0} (G : Rule T K A) (s : Sight T) (end : Rule T K (List A
   headed_clear : (n : ℕ) → Clear (bounded n G end) (wide_sight s e) → Clear (headed G (bounded n G end)) (sequence_sight s (wide_sight s e))
   headed_clear n w =
       clear-sequence G (λ a. made (λ rest. a ∷ rest) (bounded n G end)) s (wide_sight s e) g
-        (λ a. clear-made (λ rest. a ∷ rest) (bounded n G end) (wide_sight s e) w)
-        (λ x. or_both (s.more x) (s.first x) (e.first x) (loops x) (ends x))
+      (λ a. clear-made (λ rest. a ∷ rest) (bounded n G end) (wide_sight s e) w)
+      (λ x. or_both (s.more x) (s.first x) (e.first x) (loops x) (ends x))
 
   clear_next : (n : ℕ) → Clear (bounded n G end) (wide_sight s e) → Clear (bounded (suc n) G end) (repeat_sight s e)
   clear_next n w =
       clear-wider (bounded (suc n) G end) (either_sight (sequence_sight s (wide_sight s e)) nothing_sight) (repeat_sight s e) (sees_repeat s e wants)
-        (clear-either (headed G (bounded n G end)) (nothing []) (sequence_sight s (wide_sight s e)) nothing_sight
-          (headed_clear n w) (clear-nothing []) (λ x. and_false _) (rw wants))
+      (clear-either (headed G (bounded n G end)) (nothing []) (sequence_sight s (wide_sight s e)) nothing_sight
+      (headed_clear n w) (clear-nothing []) (λ x. and_false _) (rw wants))
 
   pub clear_wide : (n : ℕ) → Clear (bounded n G end) (wide_sight s e)
   clear_wide zero =
       clear-wider end e (wide_sight s e)
-        (record {
-          first = λ x q. or_right (s.first x) (e.first x) q;
-          null = λ q. refl;
-          more = λ x q. or_right (s.first x || s.more x) _ (or_right (e.first x) (e.more x) q);
-        }) h
+      (record {
+        first = λ x q. or_right (s.first x) (e.first x) q;
+        null = λ q. refl;
+        more = λ x q. or_right (s.first x || s.more x) _ (or_right (e.first x) (e.more x) q);
+      }) h
   clear_wide (suc n) =
       clear-wider (bounded (suc n) G end) (repeat_sight s e) (wide_sight s e)
-        (record {
-          first = λ x q. or_left (s.first x) (e.first x) q;
-          null = λ q. q;
-          more = λ x q. q;
-        }) (clear_next n (clear_wide n))
+      (record {
+        first = λ x q. or_left (s.first x) (e.first x) q;
+        null = λ q. q;
+        more = λ x q. q;
+      }) (clear_next n (clear_wide n))
 
   pub clear-bounded : (n : ℕ) → Clear (bounded (suc n) G end) (repeat_sight s e)
   clear-bounded n = clear_next n (clear_wide n)
@@ -123,20 +121,20 @@ module _ {T K A : Type 0} (G : Rule T K A) (s : Sight T) (end : Rule T K (List A
     right-bounded zero ts = right_end ts
     right-bounded (suc n) ts =
         right-either (headed G (bounded n G end)) (nothing []) s.first
-          (headed_clear n (clear_wide n)).fronts (clear-nothing []).fronts
-          (headed_begins n) (headed_exact n)
-          (λ m t x q f. cons_not_nil [] t x f.1)
-          (headed_wants n)
-          ts
-          (and_then (read ts) (λ a left. read_made (λ rest. a ∷ rest) (read_bounded n s.first read stop left)))
-          (found [] ts)
-          (right-sequence G (λ a. made (λ rest. a ∷ rest) (bounded n G end)) s (wide_sight s e) g
-            (λ a. clear-made (λ rest. a ∷ rest) (bounded n G end) (wide_sight s e) (clear_wide n))
-            (λ x. or_both (s.more x) (s.first x) (e.first x) (loops x) (ends x))
-            ts (read ts) (right ts)
-            (λ a left. read_made (λ rest. a ∷ rest) (read_bounded n s.first read stop left))
-            (λ a left. right-made (λ rest. a ∷ rest) (bounded n G end) left (read_bounded n s.first read stop left) (right-bounded n left)))
-          (right-nothing [] ts)
+        (headed_clear n (clear_wide n)).fronts (clear-nothing []).fronts
+        (headed_begins n) (headed_exact n)
+        (λ m t x q f. cons_not_nil [] t x f.1)
+        (headed_wants n)
+        ts
+        (and_then (read ts) (λ a left. read_made (λ rest. a ∷ rest) (read_bounded n s.first read stop left)))
+        (found [] ts)
+        (right-sequence G (λ a. made (λ rest. a ∷ rest) (bounded n G end)) s (wide_sight s e) g
+        (λ a. clear-made (λ rest. a ∷ rest) (bounded n G end) (wide_sight s e) (clear_wide n))
+        (λ x. or_both (s.more x) (s.first x) (e.first x) (loops x) (ends x))
+        ts (read ts) (right ts)
+        (λ a left. read_made (λ rest. a ∷ rest) (read_bounded n s.first read stop left))
+        (λ a left. right-made (λ rest. a ∷ rest) (bounded n G end) left (read_bounded n s.first read stop left) (right-bounded n left)))
+        (right-nothing [] ts)
 
     pub reads-bounded : (n : ℕ) → Reads (bounded (suc n) G end) (repeat_sight s e) (read_bounded (suc n) s.first read stop)
     reads-bounded n = record {

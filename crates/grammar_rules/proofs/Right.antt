@@ -1,10 +1,10 @@
 -- An outcome is right for a rule: the laws of the readers that mirror the rules.
-use Rattle.std.proofs.Common.{◌≡◌, ◌||◌, ◌&&◌, Bool, true, false, List, [], ◌∷◌, ◌++◌, Option, Some, None, refl, sym, ap, ◌∙◌, subst, inl, inr, append_assoc, append-nil}
-use Rattle.grammar_rules.specs.Rules.{Rule, Last, fits, faulty, Joined, Verdict, takes, faults, refuses, terminal, nothing, made, sequence, alternatives, FrontOfOne}
+use Rattle.std.proofs.Common.{◌≡◌, List, [], ◌∷◌, ◌++◌, Some, None, refl, sym, ap, ◌∙◌, subst, inl, inr, append_assoc, append-nil}
+use Rattle.grammar_rules.specs.Rules.{Rule, Last, fits, faulty, Joined, Verdict, takes, faults, refuses, terminal, nothing, made, sequence, FrontOfOne}
 use Rattle.grammar_rules.specs.Readers.{Outcome, found, failed, and_then, read_made, read_symbol, read_terminal}
 use Rattle.grammar_rules.proofs.Lists.{Cut, beyond, equal, inside, cut}
-use Rattle.grammar_rules.proofs.Clear.{Closed, Sight, Clear, fault-nil}
-use Rattle.grammar_rules.proofs.Alternatives.{cons_not_nil, Within}
+use Rattle.grammar_rules.proofs.Clear.{Sight, Clear}
+use Rattle.grammar_rules.proofs.Alternatives.{cons_not_nil}
 use Rattle.grammar_rules.proofs.Sequences.{Apart, clash}
 
 -- nothing goes on from pre with the first symbol of left
@@ -83,8 +83,8 @@ module _ {T K A : Type 0} (look : T → Verdict K A) where
     is = refl;
     front = tt;
     stops = λ u r m x q f.
-      let p : t ≡ u = cc in
-      refused_one m u x (subst (λ z. look z ≡ refuses) p e) f;
+        let p : t ≡ u = cc in
+        refused_one m u x (subst (λ z. look z ≡ refuses) p e) f;
     unspelled = λ a w. w;
   }
 
@@ -121,7 +121,7 @@ module _ {T K A B : Type 0} (G : Rule T K A) (H : A → Rule T K B) (s t : Sight
         subst (λ l. (H a).Front m l) (sym k) (subst (λ c. (H c).Front m j.right) p j.after)
     behind_cut m q u x e j (inside y z f k) =
         absurd (clash G H s t g h off j.value j.left fits y z j.whole (subst (λ l. G.Front fits l) f (g.fronts.spelled a pre w))
-          ((h j.value).starts m y (z ++ (q ++ u ∷ x)) (subst (λ l. (H j.value).Front m l) k j.after)))
+        ((h j.value).starts m y (z ++ (q ++ u ∷ x)) (subst (λ l. (H j.value).Front m l) k j.after)))
 
     first_again : (m : Last K) (q : List T) (u : T) (x : List T) (e : (r : List T) × (left ≡ q ++ u ∷ r)) → G.Front m (pre ++ (q ++ u ∷ x)) → ⊥
     first_again m [] u x e f = st u e.0 m x e.1 f
@@ -147,7 +147,7 @@ module _ {T K A B : Type 0} (G : Rule T K A) (H : A → Rule T K B) (s t : Sight
         subst (λ l. (H a).Spells b l) (sym k) (subst (λ c. (H c).Spells b j.right) p j.after)
     unspelled_cut q rest e b j (inside y z f k) =
         absurd (clash G H s t g h off j.value j.left fits y z j.whole (subst (λ l. G.Front fits l) f (g.fronts.spelled a pre w))
-          ((h j.value).starts fits y (z ++ q) (subst (λ l. (H j.value).Front fits l) k ((h j.value).fronts.spelled b j.right j.after))))
+        ((h j.value).starts fits y (z ++ q) (subst (λ l. (H j.value).Front fits l) k ((h j.value).fronts.spelled b j.right j.after))))
 
     pub right_second : (ts : List T) → ts ≡ pre ++ left → (o : Outcome T K B) → Right (H a) left o → Right (sequence G H) ts o
     right_second ts is (found b rest) v = record {
@@ -181,7 +181,7 @@ module _ {T K A B : Type 0} (G : Rule T K A) (H : A → Rule T K B) (s t : Sight
     refused_cut u r m x e j (equal f k) = v.unspelled j.value (subst (λ l. G.Spells j.value l) (sym f) j.whole)
     refused_cut u r m x e j (inside y z f k) =
         clash G H s t g h off j.value j.left fits y z j.whole (subst (λ l. G.Front fits l) f v.front)
-          ((h j.value).starts m y (z ++ u ∷ x) (subst (λ l. (H j.value).Front m l) k j.after))
+        ((h j.value).starts m y (z ++ u ∷ x) (subst (λ l. (H j.value).Front m l) k j.after))
 
     refused_front : (u : T) (r : List T) (m : Last K) (x : List T) → left ≡ u ∷ r → (sequence G H).Front m (v.pre ++ u ∷ x) → ⊥
     refused_front u r m x e (inl f) = v.stops u r m x e f
@@ -192,7 +192,7 @@ module _ {T K A B : Type 0} (G : Rule T K A) (H : A → Rule T K B) (s t : Sight
     refused_text b j (equal f k) = v.unspelled j.value (subst (λ l. G.Spells j.value l) (sym f) j.whole)
     refused_text b j (inside y z f k) =
         clash G H s t g h off j.value j.left fits y z j.whole (subst (λ l. G.Front fits l) f v.front)
-          ((h j.value).starts fits y (z ++ []) (subst (λ l. (H j.value).Front fits l) k ((h j.value).fronts.spelled b j.right j.after)))
+        ((h j.value).starts fits y (z ++ []) (subst (λ l. (H j.value).Front fits l) k ((h j.value).fronts.spelled b j.right j.after)))
 
     refused_first : Right (sequence G H) ts (failed None left)
     refused_first = record {

@@ -88,8 +88,8 @@ module _ {T K A B : Type 0} (G : Rule T K A) (H : A → Rule T K B) (s t : Sight
   empty-sequence b j =
       let n = nil_left j.left j.right j.joined in
       and_both s.null t.null
-        (g.empty j.value (subst (λ z. G.Spells j.value z) n.0 j.whole))
-        ((h j.value).empty b (subst (λ z. (H j.value).Spells b z) n.1 j.after))
+      (g.empty j.value (subst (λ z. G.Spells j.value z) n.0 j.whole))
+      ((h j.value).empty b (subst (λ z. (H j.value).Spells b z) n.1 j.after))
 
   -- a whole sequence goes on: first rule's front
   on_first : (a : A) (b : B) (l p : List T) (m : Last K) (u : T) (r : List T) → G.Spells a l → (H a).Spells b p → G.Front m (l ++ (p ++ u ∷ r)) → (sequence_sight s t).more u ≡ true
@@ -130,10 +130,10 @@ module _ {T K A B : Type 0} (G : Rule T K A) (H : A → Rule T K B) (s t : Sight
   single_sequence : (b b' : B) (ts : List T) → (sequence G H).Spells b ts → (sequence G H).Spells b' ts → b ≡ b'
   single_sequence b b' ts j k =
       let e = same_first j.value k.value j.left j.right k.left k.right (sym j.joined ∙ k.joined) j.whole k.whole
-                (leads_front j.value fits j.right ((h j.value).fronts.spelled b j.right j.after))
-                (leads_front k.value fits k.right ((h k.value).fronts.spelled b' k.right k.after)) in
+      (leads_front j.value fits j.right ((h j.value).fronts.spelled b j.right j.after))
+      (leads_front k.value fits k.right ((h k.value).fronts.spelled b' k.right k.after)) in
       (h k.value).single b b' k.right
-        (subst (λ z. (H k.value).Spells b z) e.2 (subst (λ z. (H z).Spells b j.right) e.0 j.after)) k.after
+      (subst (λ z. (H k.value).Spells b z) e.2 (subst (λ z. (H z).Spells b j.right) e.0 j.after)) k.after
 
   last_first : (k : K) (pre : List T) (m : Last K) (r : List T) → G.Front (faulty k) pre → (j : Joined G (λ a. (H a).Front m) (pre ++ r)) → Cut pre r j.left j.right → (r ≡ []) × (m ≡ faulty k)
   last_first k pre m r f j (beyond u x e q) =
@@ -159,10 +159,10 @@ module _ {T K A B : Type 0} (G : Rule T K A) (H : A → Rule T K B) (s t : Sight
   last_sequence k pre m r (inl f) (inr j) = last_first k pre m r f j (cut pre r j.left j.right j.joined)
   last_sequence k pre m r (inr j) (inl f) =
       last_second k j.value j.left j.right m r j.whole j.after
-        (subst (λ y. G.Front m y) (ap (λ z. z ++ r) j.joined ∙ append_assoc j.left j.right r) f)
+      (subst (λ y. G.Front m y) (ap (λ z. z ++ r) j.joined ∙ append_assoc j.left j.right r) f)
   last_sequence k pre m r (inr j) (inr i) =
       last_both k j.value i.value j.left j.right i.left i.right m r j.whole j.after i.whole i.after
-        (sym (ap (λ z. z ++ r) j.joined ∙ append_assoc j.left j.right r) ∙ i.joined)
+      (sym (ap (λ z. z ++ r) j.joined ∙ append_assoc j.left j.right r) ∙ i.joined)
 
   pub clear-sequence : Clear (sequence G H) (sequence_sight s t)
   clear-sequence = record {

@@ -1,9 +1,8 @@
 -- The laws of terminals, of the empty text, and of a rule whose values are made of another's.
-use Rattle.std.proofs.Common.{◌≡◌, Bool, true, false, List, [], ◌∷◌, ◌++◌, refl, sym, ap, ◌∙◌, subst, inl, inr}
-use Rattle.grammar_rules.specs.Rules.{Rule, Last, fits, faulty, Verdict, takes, faults, refuses, terminal, nothing, made, SpelledByOne, FrontOfOne}
+use Rattle.std.proofs.Common.{◌≡◌, true, false, List, [], ◌∷◌, ◌++◌, refl, sym, ap, ◌∙◌}
+use Rattle.grammar_rules.specs.Rules.{Rule, Last, fits, faulty, Verdict, terminal, nothing, made, SpelledByOne, FrontOfOne}
 use Rattle.grammar_rules.specs.Readers.{is_seen}
-use Rattle.grammar_rules.proofs.Lists.{or_left, or_right}
-use Rattle.grammar_rules.proofs.Clear.{Closed, Sight, Clear, fault-nil}
+use Rattle.grammar_rules.proofs.Clear.{Closed, Sight, Clear}
 use Rattle.grammar_rules.proofs.Alternatives.{cons_not_nil}
 
 abbrev pub terminal_sight : {T K A : Type 0} → (T → Verdict K A) → Sight T

@@ -1,10 +1,10 @@
 -- The readers of the small grammar of sums, which mirror its rules one by one.
-use Rattle.std.specs.Prelude.{ℕ, zero, suc, List, [], drop, None}
+use Rattle.std.specs.Prelude.{ℕ, zero, suc, List, drop, None}
 use Rattle.grammar_rules.specs.declared.arithmetic.Token.{Token}
 use Rattle.grammar_rules.specs.declared.arithmetic.Expression.{Expression}
-use Rattle.grammar_rules.specs.declared.arithmetic.Expression.TheVariants.{Literal, Sum, Call}
+use Rattle.grammar_rules.specs.declared.arithmetic.Expression.TheVariants.{Sum, Call}
 use Rattle.grammar_rules.specs.Expressions.{Limit, too_deep, is_plus, is_comma, is_open, is_close, number, name}
-use Rattle.grammar_rules.specs.Readers.{Outcome, found, failed, and_then, read_made, read_terminal, is_seen, starts, chosen, read_fault, read_past, closed_by, read_before, read_pair, read_headed, read_either, read_many}
+use Rattle.grammar_rules.specs.Readers.{Outcome, found, failed, read_made, read_terminal, is_seen, starts, chosen, read_fault, read_past, read_before, read_pair, read_headed, read_either, read_many}
 
 -- the readers of what stands with its brackets
 pub record BracketReaders : Type 0 where
@@ -17,7 +17,7 @@ read_call arguments ts = read_made (λ p. Call p.0 p.1) (read_pair (read_termina
 abbrev pub read_term : BracketReaders → List Token → Outcome Token Limit Expression
 read_term b =
     read_either (λ t. is_seen (number t)) (read_terminal number)
-      (read_either (λ t. is_seen (name t)) (read_call b.arguments) b.group)
+    (read_either (λ t. is_seen (name t)) (read_call b.arguments) b.group)
 
 abbrev pub read_sum : BracketReaders → List Token → Outcome Token Limit Expression
 read_sum b ts = read_made Sum (read_headed (read_term b) (read_many is_plus (read_past is_plus (read_term b))) ts)

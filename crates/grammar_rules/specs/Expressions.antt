@@ -5,13 +5,12 @@
 --   call      = name "(" sum { "," sum } ")"
 --
 -- and of its readers, which mirror the rules one by one.
-use Rattle.std.specs.Prelude.{◌≡◌, ◌≢◌, ℕ, zero, suc, Bool, true, false, List, [], ◌∷◌, Option, Some, None, Result, Ok, Err}
+use Rattle.std.specs.Prelude.{ℕ, zero, suc, Bool, true, false, List}
 use Rattle.grammar_rules.specs.declared.arithmetic.Token.{Token}
 use Rattle.grammar_rules.specs.declared.arithmetic.Token.TheVariants.{Number, Name, Plus, Comma, Open, Close}
 use Rattle.grammar_rules.specs.declared.arithmetic.Expression.{Expression}
 use Rattle.grammar_rules.specs.declared.arithmetic.Expression.TheVariants.{Literal, Sum, Call}
-use Rattle.grammar_rules.specs.Rules.{Rule, Verdict, takes, faults, refuses, terminal, token, fault, never, made, either, headed, many, followed_by, preceded_by, ◌&◌, alternatives}
-use Rattle.grammar_rules.specs.Readers.{Outcome, found, failed, and_then, read_made, read_terminal, read_either, read_headed, read_many, read_pair}
+use Rattle.grammar_rules.specs.Rules.{Rule, Verdict, takes, refuses, terminal, token, fault, never, made, either, headed, many, followed_by, preceded_by, ◌&◌, alternatives}
 
 -- the one limit: brackets that are nested too deep
 pub data Limit : Type 0 where

@@ -1,5 +1,5 @@
 -- What the functions of the small grammar's parser answer, seen as outcomes and as answers.
-use Rattle.std.specs.Prelude.{◌≡◌, ◌≢◌, ℕ, List, [], ◌∷◌, Bool, true, false, Option, Some, None, Result, Ok, Err}
+use Rattle.std.specs.Prelude.{◌≡◌, ◌≢◌, ℕ, List, ◌∷◌, false, Option, Some, None, Result, Ok, Err}
 use Rattle.grammar_rules.specs.declared.arithmetic.Token.{Token}
 use Rattle.grammar_rules.specs.declared.arithmetic.Token.TheVariants.{Number, Name}
 use Rattle.grammar_rules.specs.declared.arithmetic.Expression.{Expression}

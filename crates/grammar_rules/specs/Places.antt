@@ -1,5 +1,5 @@
 -- What a text is to a grammar: a text of a value, or a text with a first fault at its place.
-use Rattle.std.specs.Prelude.{◌≡◌, ℕ, ◌+◌, ◌<◌, ◌≤◌, List, length, take, Option, Some, None}
+use Rattle.std.specs.Prelude.{ℕ, ◌+◌, ◌<◌, ◌≤◌, List, length, take, Option, Some, None}
 use Rattle.grammar_rules.specs.Rules.{Rule, Last, fits, faulty}
 
 -- the first symbol with which the symbols so far are no front stands at this place, or the symbols end

@@ -1,5 +1,5 @@
 -- What a reader with one symbol of lookahead answers, and the readers that mirror the rules.
-use Rattle.std.specs.Prelude.{◌≡◌, ℕ, zero, suc, Bool, true, false, List, [], ◌∷◌, ◌++◌, length, drop, ◌-◌, Option, Some, None}
+use Rattle.std.specs.Prelude.{ℕ, zero, suc, Bool, true, false, List, [], ◌∷◌, length, drop, ◌-◌, Option, Some, None}
 use Rattle.grammar_rules.specs.Places.{Answer, value, refusal}
 use Rattle.grammar_rules.specs.Rules.{Verdict, takes, faults, refuses, without}
 
@@ -83,8 +83,8 @@ abbrev pub read_bounded : {T K A : Type 0} → ℕ → (T → Bool) → (List T 
 read_bounded zero test read end ts = end ts
 read_bounded (suc n) test read end ts =
     chosen (starts test ts)
-      (and_then (read ts) (λ a left. read_made (λ rest. a ∷ rest) (read_bounded n test read end left)))
-      (found [] ts)
+    (and_then (read ts) (λ a left. read_made (λ rest. a ∷ rest) (read_bounded n test read end left)))
+    (found [] ts)
 
 -- as often as a symbol passes the test
 unfoldable pub read_many : {T K A : Type 0} → (T → Bool) → (List T → Outcome T K A) → List T → Outcome T K (List A)
@@ -110,9 +110,9 @@ abbrev pub read_some_members : {T K A I : Type 0} → (I → I → Bool) → (T 
 read_some_members same which read zero free ts = found [] ts
 read_some_members same which read (suc n) free ts =
     chosen (starts (λ t. is_free free (which t)) ts)
-      (and_then (read_member which read free ts)
-        (λ m left. read_made (λ rest. m ∷ rest) (read_some_members same which read n (without same m.0 free) left)))
-      (found [] ts)
+    (and_then (read_member which read free ts)
+    (λ m left. read_made (λ rest. m ∷ rest) (read_some_members same which read n (without same m.0 free) left)))
+    (found [] ts)
 
 -- the free members in any order, each at most once, while a symbol begins one
 unfoldable pub read_members : {T K A I : Type 0} → (I → I → Bool) → (T → Option I) → (I → List T → Outcome T K A) → (I → Bool) → List T → Outcome T K (List (I × A))

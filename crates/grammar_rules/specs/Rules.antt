@@ -84,7 +84,6 @@ abbrev pub never : {T K A : Type 0} → Rule T K A
 never = terminal (λ t. refuses)
 
 infixr 35 ◌&◌
-
 -- one after the other, for the pair of the values
 abbrev pub ◌&◌ : {T K A B : Type 0} → Rule T K A → Rule T K B → Rule T K (A × B)
 G & H = sequence G (λ a. made (λ b. (a, b)) H)

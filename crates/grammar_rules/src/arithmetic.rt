@@ -94,8 +94,7 @@ pub fn parse(alloc: Global, tokens: &[Token]) -> Result<Expression, ParseError>
 pub fn fronts_begin_expressions()
     ensures begun { (ts : List Token) → any_expression.Front fits ts → (rest : List Token) × (e : Expression) × any_expression.Spells e (ts ++ rest) }
     ensures begins { (ts rest : List Token) (e : Expression) → any_expression.Spells e (ts ++ rest) → any_expression.Front fits ts }
-{
-}
+{}
 
 /// The error that a failure at this place is.
 fn error_at(failure: Failure, at: usize) -> ParseError
@@ -199,7 +198,11 @@ fn group(alloc: Global, tokens: &mut Cursor<'_, Token>, depth: u32) -> Result<Ex
 
 /// Sums in brackets, with commas between.
 #[cycle(expression)]
-fn arguments(alloc: Global, tokens: &mut Cursor<'_, Token>, depth: u32) -> Result<Items<Expression>, Failure>
+fn arguments(
+    alloc: Global,
+    tokens: &mut Cursor<'_, Token>,
+    depth: u32,
+) -> Result<Items<Expression>, Failure>
     ensures gives { Gives ((read_brackets depth).arguments tokens.old) result tokens.new }
     ensures passes { length tokens.new ≤ length tokens.old }
 {
@@ -243,7 +246,11 @@ fn sum(alloc: Global, tokens: &mut Cursor<'_, Token>, depth: u32) -> Result<Expr
 
 /// Sums with commas between.
 #[cycle(expression)]
-fn list(alloc: Global, tokens: &mut Cursor<'_, Token>, depth: u32) -> Result<Items<Expression>, Failure>
+fn list(
+    alloc: Global,
+    tokens: &mut Cursor<'_, Token>,
+    depth: u32,
+) -> Result<Items<Expression>, Failure>
     ensures gives { Gives (read_list (read_sum (read_brackets depth)) tokens.old) result tokens.new }
     ensures passes { length tokens.new ≤ length tokens.old }
 {

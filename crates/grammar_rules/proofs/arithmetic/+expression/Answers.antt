@@ -1,5 +1,5 @@
 -- The parser's functions follow their readers.
-use Rattle.std.proofs.Common.{◌≡◌, refl, sym, ap, ◌∙◌, subst, arith, rules, length, length-drop}
+use Rattle.std.proofs.Common.{sym, ap, ◌∙◌, arith, rules, length, length-drop}
 use Rattle.std.proofs.lemmas.Result.{err_from_is_err_and}
 use Rattle.grammar_rules.specs.Parsing.{fault_of}
 use Rattle.grammar_rules.specs.declared.arithmetic.Expression.TheVariants.{Sum}
@@ -34,12 +34,12 @@ sum-terms-init t c = record {
 pub sum-terms-preserved : goal.sum-terms-preserved
 sum-terms-preserved t c = record {
   reads =
-    let e = terms_step c.args.depth c.terms.terms c.terms.tokens c.in_ok-next.next c.term-in-terms.new.tokens (sym c.is_at_plus.ensures ∙ c.terms-test.true) (rw (← c.skip.ensures) c.in_ok-next.ensures.gives) in
-    rw c.in_ok-push-2.ensures.ok (c.terms.invariant.reads ∙ ap (read_made Sum) e);
+      let e = terms_step c.args.depth c.terms.terms c.terms.tokens c.in_ok-next.next c.term-in-terms.new.tokens (sym c.is_at_plus.ensures ∙ c.terms-test.true) (rw (← c.skip.ensures) c.in_ok-next.ensures.gives) in
+      rw c.in_ok-push-2.ensures.ok (c.terms.invariant.reads ∙ ap (read_made Sum) e);
   passes =
-    let d = length-drop 1 c.terms.tokens in
-    let l = ap length c.skip.ensures in
-    omega (arith, c.in_ok-next.ensures.passes, c.terms.invariant.passes);
+      let d = length-drop 1 c.terms.tokens in
+      let l = ap length c.skip.ensures in
+      omega (arith, c.in_ok-next.ensures.passes, c.terms.invariant.passes);
 }
 
 pub sum-returns-clause-gives : goal.sum-returns-clause-gives
@@ -47,10 +47,10 @@ sum-returns-clause-gives t c =
     rw (c.terms.invariant.reads, terms_stop c.args.depth c.terms.terms c.terms.tokens (sym c.is_at_plus.ensures ∙ c.terms-test.false))
 
 pub sum-returns-in_err-next-clause-gives : goal.sum-returns-in_err-next-clause-gives
-sum-returns-in_err-next-clause-gives t c = 
+sum-returns-in_err-next-clause-gives t c =
     let p = err_from_is_err_and c.from_residual-in_err-next.result c.from_residual-in_err-next.ensures.1 in
     rw (c.terms.invariant.reads, p.1, p.2)
-      (λ n. ap (read_made Sum) (terms_fail c.args.depth c.terms.terms c.terms.tokens (fault_of c.in_err-next.field-0.0) c.term-in-terms.new.tokens (sym c.is_at_plus.ensures ∙ c.terms-test.true) (rw (← c.skip.ensures) (c.in_err-next.ensures.gives n))))
+    (λ n. ap (read_made Sum) (terms_fail c.args.depth c.terms.terms c.terms.tokens (fault_of c.in_err-next.field-0.0) c.term-in-terms.new.tokens (sym c.is_at_plus.ensures ∙ c.terms-test.true) (rw (← c.skip.ensures) (c.in_err-next.ensures.gives n))))
 
 pub list-sums-init : goal.list-sums-init
 list-sums-init t c = record {
@@ -61,12 +61,12 @@ list-sums-init t c = record {
 pub list-sums-preserved : goal.list-sums-preserved
 list-sums-preserved t c = record {
   reads =
-    let e = sums_step c.args.depth c.sums.sums c.sums.tokens c.in_ok-next.next c.sum-in-sums.new.tokens (sym c.is_at_comma.ensures ∙ c.sums-test.true) (rw (← c.skip.ensures) c.in_ok-next.ensures.gives) in
-    rw c.in_ok-push-2.ensures.ok (c.sums.invariant.reads ∙ e);
+      let e = sums_step c.args.depth c.sums.sums c.sums.tokens c.in_ok-next.next c.sum-in-sums.new.tokens (sym c.is_at_comma.ensures ∙ c.sums-test.true) (rw (← c.skip.ensures) c.in_ok-next.ensures.gives) in
+      rw c.in_ok-push-2.ensures.ok (c.sums.invariant.reads ∙ e);
   passes =
-    let d = length-drop 1 c.sums.tokens in
-    let l = ap length c.skip.ensures in
-    omega (arith, c.in_ok-next.ensures.passes, c.sums.invariant.passes);
+      let d = length-drop 1 c.sums.tokens in
+      let l = ap length c.skip.ensures in
+      omega (arith, c.in_ok-next.ensures.passes, c.sums.invariant.passes);
 }
 
 pub list-returns-clause-gives : goal.list-returns-clause-gives
@@ -77,4 +77,4 @@ pub list-returns-in_err-next-clause-gives : goal.list-returns-in_err-next-clause
 list-returns-in_err-next-clause-gives t c =
     let p = err_from_is_err_and c.from_residual-in_err-next.result c.from_residual-in_err-next.ensures.1 in
     rw (c.sums.invariant.reads, p.1, p.2)
-      (λ n. sums_fail c.args.depth c.sums.sums c.sums.tokens (fault_of c.in_err-next.field-0.0) c.sum-in-sums.new.tokens (sym c.is_at_comma.ensures ∙ c.sums-test.true) (rw (← c.skip.ensures) (c.in_err-next.ensures.gives n)))
+    (λ n. sums_fail c.args.depth c.sums.sums c.sums.tokens (fault_of c.in_err-next.field-0.0) c.sum-in-sums.new.tokens (sym c.is_at_comma.ensures ∙ c.sums-test.true) (rw (← c.skip.ensures) (c.in_err-next.ensures.gives n)))

@@ -1,5 +1,5 @@
 -- The outcome of the whole text is its answer.
-use Rattle.std.proofs.Common.{◌≡◌, ◌-◌, length, Some, None, Ok, Err, refl, sym, ap, ◌∙◌}
+use Rattle.std.proofs.Common.{◌-◌, length, Ok, Err, sym, ◌∙◌}
 use Rattle.grammar_rules.specs.declared.arithmetic.ParseError.TheVariants.{Syntax}
 use Rattle.grammar_rules.specs.Parsing.{answer_of, error_of}
 use Rattle.grammar_rules.proofs.ExpressionAnswers.{at_end, before_end, failed_said, only_answer, ok_at_any_depth, syntax_at_any_depth}

@@ -1,5 +1,5 @@
 -- The key that stands at the front.
-use Rattle.std.proofs.Common.{◌≡◌, sym, refl, rules}
+use Rattle.std.proofs.Common.{sym, refl}
 use Rattle.grammar_rules.proofs.Fronts.{first_is}
 use Rattle.grammar_rules.proofs.keyed.new_key.Goals as goal
 
