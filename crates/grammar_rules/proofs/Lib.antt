@@ -1,6 +1,7 @@
 pub mod Alternatives
 pub mod Answering
 pub mod AnyOrder
+pub mod AtMost
 pub mod Choices
 pub mod Clear
 pub mod ClosedRules
