@@ -1,0 +1,31 @@
+-- What a text is to a grammar: a text of a value, or a text with a first fault at its place.
+use Rattle.std.specs.Prelude.{ℕ, ◌+◌, ◌<◌, ◌≤◌, List, length, take, Option, Some, None}
+use Rattle.grammar_rules.specs.Rules.{Rule, Last, fits, faulty}
+
+-- the first symbol with which the symbols so far are no front stands at this place, or the symbols end
+-- there too early: those before it are a front, those up to it are none, and ts is no text
+pub record RefusedThere {T K A : Type 0} (G : Rule T K A) (ts : List T) (place : ℕ) : Type 0 where
+  pub within : place ≤ length ts
+  pub front : G.Front fits (take place ts)
+  pub refused : place < length ts → (last : Last K) → G.Front last (take (place + 1) ts) → ⊥
+  pub unspelled : (a : A) → G.Spells a ts → ⊥
+
+-- the symbol at this place has the fault k, behind a front
+pub record FaultyThere {T K A : Type 0} (G : Rule T K A) (ts : List T) (k : K) (place : ℕ) : Type 0 where
+  pub within : place < length ts
+  pub front : G.Front (faulty k) (take (place + 1) ts)
+
+-- the first fault of ts: a refused or missing symbol (None), or a symbol with a fault k
+abbrev pub FirstFault : {T K A : Type 0} → Rule T K A → List T → Option K → ℕ → Type 0
+FirstFault G ts None place = RefusedThere G ts place
+FirstFault G ts (Some k) place = FaultyThere G ts k place
+
+-- an answer on a text: its value, or a fault and its place
+pub data Answer (K A : Type 0) : Type 0 where
+  value : A → Answer K A
+  refusal : Option K → ℕ → Answer K A
+
+-- the answer is what the grammar says of ts
+abbrev pub Answers : {T K A : Type 0} → Rule T K A → List T → Answer K A → Type 0
+Answers G ts (value a) = G.Spells a ts
+Answers G ts (refusal e place) = FirstFault G ts e place
