@@ -1,0 +1,9 @@
+//! Decimal numbers of up to 38 digits, whose results are exactly the stated fractions.
+#![tactic(auto)]
+
+mod arithmetic;
+mod compare;
+mod decimal;
+mod powers;
+
+pub use crate::decimal::{Dec, NumFault};
