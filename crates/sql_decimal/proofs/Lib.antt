@@ -1,1 +1,2 @@
 pub mod PowersOfTen
+pub mod Scaling

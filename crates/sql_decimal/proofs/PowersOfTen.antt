@@ -72,3 +72,7 @@ pub product_is : (c : ℤ) (p k : ℕ) → FitsSigned w128 c → p ≡ 10 ^ k �
     → to_z w128 (of_z w128 (to_z w128 (of_z w128 c) *ℤ to_z w128 p)) ≡ c *ℤ pos (10 ^ k)
 product_is c p k f e h small =
     rw (to_z-same c f, to_z-power p k e h) (to_z-same (c *ℤ pos (10 ^ k)) (fits_from_within _ small))
+
+-- what the code passes on of a number of at most 38 digits is that number
+pub passed : (c d : ℤ) → unsigned_abs c < 10 ^ 38 → c ≡ d → to_z w128 (of_z w128 c) ≡ d
+passed c d h e = to_z-same c (fits_from_within c h) ∙ e

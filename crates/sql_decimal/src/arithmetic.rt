@@ -1,7 +1,7 @@
 //! The arithmetic of decimals.
-ghost use Rattle.std.specs.Prelude.{◌≡◌, ◌≢◌, ◌^◌, ◌<◌, ◌≤◌, ℤ, pos, ◌+ℤ◌, ◌-ℤ◌, ◌*ℤ◌, int_div, int_rem, unsigned_abs, true, IsTrue};
+ghost use Rattle.std.specs.Prelude.{◌≡◌, ◌≢◌, ◌^◌, ◌<◌, ◌≤◌, ℤ, pos, ◌+ℤ◌, ◌-ℤ◌, ◌*ℤ◌, int_div, int_rem, unsigned_abs, true, IsTrue, if◌then◌else◌};
 ghost use Rattle.std.specs.Option.{SomeIff};
-ghost use Rattle.sql_decimal.specs.Decimal.{Decimal, decimal_of};
+ghost use Rattle.sql_decimal.specs.Decimal.{Decimal, decimal_of, is_within};
 ghost use Rattle.sql_decimal.specs.Arithmetic.{aligned, common_scale, are_aligned, decimal_or_overflow, cut_coefficient, sum, difference, product, quotient, remainder, cut};
 
 use crate::decimal::{Dec, NumFault};
@@ -41,6 +41,20 @@ fn checked(coeff: i128, scale: u8) -> Result<Dec, NumFault>
     Dec::make(coeff, scale).ok_or(NumFault::Overflow)
 }
 
+/// `coeff` / 10^`scale`, where that has at most `digits` digits.
+fn within(coeff: i128, digits: u8, scale: u8) -> Result<Dec, NumFault>
+    requires coeff { unsigned_abs coeff < 10 ^ 38 }
+    requires digits { digits ≤ 38 }
+    requires scale { scale ≤ 38 }
+    ensures { result ≡ (if is_within digits coeff then Ok (decimal_of coeff scale) else Err NumFault.Overflow) }
+{
+    if coeff.unsigned_abs() < power_of_ten(digits) {
+        Ok(Dec::of(coeff, scale))
+    } else {
+        Err(NumFault::Overflow)
+    }
+}
+
 fn plus(left: i128, right: i128, scale: u8) -> Result<Dec, NumFault>
     ensures { result ≡ decimal_or_overflow (left +ℤ right) scale }
 {
@@ -68,6 +82,26 @@ fn times(left: i128, right: i128, scale: u8) -> Result<Dec, NumFault>
     }
 }
 
+/// `left` / `right` cut toward zero, at a scale.
+fn over(left: i128, right: i128, scale: u8) -> Result<Dec, NumFault>
+    requires digits { unsigned_abs left < 10 ^ 38 }
+    requires divisor { right ≢ pos 0 }
+    requires scale { scale ≤ 38 }
+    ensures { result ≡ decimal_or_overflow (int_div left right) scale }
+{
+    Ok(Dec::of(divided(left, right), scale))
+}
+
+/// What is left of `left` after division by `right`, at a scale.
+fn left_over(left: i128, right: i128, scale: u8) -> Result<Dec, NumFault>
+    requires digits { unsigned_abs left < 10 ^ 38 }
+    requires divisor { right ≢ pos 0 }
+    requires scale { scale ≤ 38 }
+    ensures { result ≡ decimal_or_overflow (int_rem left right) scale }
+{
+    Ok(Dec::of(remaining(left, right), scale))
+}
+
 /// `left` / `right`, cut toward zero.
 fn divided(left: i128, right: i128) -> i128
     requires digits { unsigned_abs left < 10 ^ 38 }
@@ -79,7 +113,7 @@ fn divided(left: i128, right: i128) -> i128
 }
 
 /// What is left of `left` after division by `right`.
-fn left_over(left: i128, right: i128) -> i128
+fn remaining(left: i128, right: i128) -> i128
     requires digits { unsigned_abs left < 10 ^ 38 }
     requires divisor { right ≢ pos 0 }
     ensures value { result ≡ int_rem left right }
@@ -138,7 +172,7 @@ impl Dec {
         }
         let scale = self.scale().max(other.scale()).max(QUOTIENT_SCALE);
         match scaled(self.coeff(), scale - self.scale() + other.scale()) {
-            Some(numerator) => Ok(Dec::of(divided(numerator, other.coeff()), scale)),
+            Some(numerator) => over(numerator, other.coeff(), scale),
             None => Err(NumFault::Overflow),
         }
     }
@@ -155,7 +189,7 @@ impl Dec {
             return Err(NumFault::DivideByZero);
         }
         match align(self, other) {
-            Some(pair) => Ok(Dec::of(left_over(pair.left, pair.right), pair.scale)),
+            Some(pair) => left_over(pair.left, pair.right, pair.scale),
             None => Err(NumFault::Overflow),
         }
     }
@@ -171,8 +205,8 @@ impl Dec {
         ensures { result ≡ cut self.now digits scale }
     {
         match self.at_scale(scale) {
-            Some(coeff) if coeff.unsigned_abs() < power_of_ten(digits) => Ok(Dec::of(coeff, scale)),
-            _ => Err(NumFault::Overflow),
+            Some(coeff) => within(coeff, digits, scale),
+            None => Err(NumFault::Overflow),
         }
     }
 
