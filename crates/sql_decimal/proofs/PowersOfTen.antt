@@ -76,3 +76,11 @@ product_is c p k f e h small =
 -- what the code passes on of a number of at most 38 digits is that number
 pub passed : (c d : ℤ) → unsigned_abs c < 10 ^ 38 → c ≡ d → to_z w128 (of_z w128 c) ≡ d
 passed c d h e = to_z-same c (fits_from_within c h) ∙ e
+
+-- what `scaled` answers of a number d, where it was passed as c
+pub scaled_is : (x c d : ℤ) (k : ℕ) → c ≡ d → (unsigned_abs (c *ℤ pos (10 ^ k)) < 10 ^ 38) × (x ≡ c *ℤ pos (10 ^ k))
+    → (unsigned_abs (to_z w128 (of_z w128 x)) < 10 ^ 38) × (to_z w128 (of_z w128 x) ≡ d *ℤ pos (10 ^ k))
+scaled_is x c d k e (small, f) =
+    let P : ℤ → Type 0 = λ z. unsigned_abs z < 10 ^ 38 in
+    let same = passed x (c *ℤ pos (10 ^ k)) (subst P (sym f) small) f in
+    (subst P (sym same) small, same ∙ ap (λ z. z *ℤ pos (10 ^ k)) e)

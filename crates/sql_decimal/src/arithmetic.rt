@@ -1,5 +1,5 @@
 //! The arithmetic of decimals.
-ghost use Rattle.std.specs.Prelude.{◌≡◌, ◌≢◌, ◌^◌, ◌<◌, ◌≤◌, ℤ, pos, ◌+ℤ◌, ◌-ℤ◌, ◌*ℤ◌, int_div, int_rem, unsigned_abs, true, IsTrue, if◌then◌else◌};
+ghost use Rattle.std.specs.Prelude.{◌≡◌, ◌≢◌, ◌^◌, ◌<◌, ◌≤◌, ℤ, pos, ◌+ℤ◌, ◌-ℤ◌, ◌*ℤ◌, int_div, int_rem, unsigned_abs, true, IsTrue, IfSome, if◌then◌else◌};
 ghost use Rattle.std.specs.Option.{SomeIff};
 ghost use Rattle.sql_decimal.specs.Decimal.{Decimal, decimal_of, is_within};
 ghost use Rattle.sql_decimal.specs.Arithmetic.{aligned, common_scale, are_aligned, decimal_or_overflow, cut_coefficient, sum, difference, product, quotient, remainder, cut};
@@ -20,7 +20,10 @@ struct Aligned {
 
 /// Both numbers at the larger of their scales, where both have at most 38 digits there.
 fn align(left: &Dec, right: &Dec) -> Option<Aligned>
-    ensures {
+    ensures left_digits { IfSome result (λ pair. unsigned_abs pair.left < 10 ^ 38) }
+    ensures right_digits { IfSome result (λ pair. unsigned_abs pair.right < 10 ^ 38) }
+    ensures scale { IfSome result (λ pair. pair.scale ≤ 38) }
+    ensures value {
         SomeIff result (IsTrue (are_aligned left.now right.now)) (record {
           left = aligned left.now (common_scale left.now right.now);
           right = aligned right.now (common_scale left.now right.now);

@@ -1,4 +1,5 @@
-use Rattle.std.proofs.Common.{arith, ◌∙◌, ◌-◌, ap, sym, subst, ℕ, ℤ, ◌<◌, ◌^◌, pos, unsigned_abs, int_div, refl}
+use Rattle.std.proofs.Common.{arith, ◌∙◌, ◌-◌, ap, sym, subst, ℕ, ℤ, ◌<◌, ◌^◌, pos, unsigned_abs, int_div, refl, ◌*ℤ◌, to_z, of_z}
+use Rattle.std.specs.Int.{w128}
 use Rattle.std.proofs.lemmas.Int.{ints}
 use Rattle.sql_decimal.specs.Arithmetic.{cut_coefficient}
 use Rattle.sql_decimal.proofs.PowersOfTen.{passed, fits_small_power, to_z-power, ten_pow_pos}
@@ -16,7 +17,7 @@ divided-requires-clause-divisor c =
 pub returns-then-scale : goal.returns-then-scale
 returns-then-scale c =
     let p = passed c.coeff.result c.args.self.now.coefficient c.coeff.ensures.digits c.coeff.ensures.value in
-    some_iff_same _ _ _ _ (rw (p, c.scale-then-scale.ensures.value) (sym (cut_up _ _ _ (omega arith)))) c.scaled.ensures
+    some_iff_same c.scaled.result (to_z w128 (of_z w128 c.coeff.result) *ℤ pos (10 ^ (c.args.scale - c.scale-then-scale.result))) (cut_coefficient c.args.self.now c.args.scale) (10 ^ 38) (rw (p, c.scale-then-scale.ensures.value) (sym (cut_up c.args.self.now.coefficient c.args.self.now.scale c.args.scale (omega arith)))) c.scaled.ensures
 
 pub returns-else-scale : goal.returns-else-scale
 returns-else-scale c =
