@@ -1,3 +1,4 @@
+pub mod Lengths
 pub mod Outcomes
 pub mod PowersOfTen
 pub mod Scaling

@@ -1,2 +1,3 @@
-pub mod Decimal
 pub mod Arithmetic
+pub mod Decimal
+pub mod Printing

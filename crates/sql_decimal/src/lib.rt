@@ -5,5 +5,6 @@ mod arithmetic;
 mod compare;
 mod decimal;
 mod powers;
+mod print;
 
 pub use crate::decimal::{Dec, NumFault};

@@ -48,7 +48,8 @@ const POWERS: [u128; 39] = [
 /// 10^exponent.
 pub(crate) fn power_of_ten(exponent: u8) -> u128
     requires { exponent ≤ 38 }
-    ensures { result ≡ 10 ^ exponent }
+    ensures value { result ≡ 10 ^ exponent }
+    ensures positive { 0 < result }
 {
     POWERS[exponent as usize]
 }

@@ -7,13 +7,13 @@ pub returns-else-coeff-eq0 : goal.returns-else-coeff-eq0
 returns-else-coeff-eq0 c = λ h. absurd (omega (arith, scaled_far_over c.args.by c.args.coeff (omega arith) (omega (arith, ints))))
 
 pub overflow_cast-result : goal.overflow_cast-result
-overflow_cast-result c = fits_small_power _ c.args.by c.power_of_ten-then-unsigned_abs-power_of_ten.ensures (omega arith)
+overflow_cast-result c = fits_small_power _ c.args.by c.power_of_ten-then-unsigned_abs-power_of_ten.ensures.value (omega arith)
 
 pub overflow_mul-result : goal.overflow_mul-result
 overflow_mul-result c =
     let fits = c.ranges.coeff in
     let size = simp to_z-of_z at c.unsigned_abs.ensures.value in
-    fits_product c.args.coeff _ c.args.by fits c.power_of_ten-then-unsigned_abs-power_of_ten.ensures (omega arith)
+    fits_product c.args.coeff _ c.args.by fits c.power_of_ten-then-unsigned_abs-power_of_ten.ensures.value (omega arith)
     (scaled_within 38 c.args.by c.args.coeff (omega arith) (omega arith))
 
 pub returns-then-unsigned_abs-power_of_ten : goal.returns-then-unsigned_abs-power_of_ten
@@ -21,7 +21,7 @@ returns-then-unsigned_abs-power_of_ten c =
     let fits = c.ranges.coeff in
     let size = simp to_z-of_z at c.unsigned_abs.ensures.value in
     let small = scaled_within 38 c.args.by c.args.coeff (omega arith) (omega arith) in
-    (small, product_is c.args.coeff _ c.args.by fits c.power_of_ten-then-unsigned_abs-power_of_ten.ensures (omega arith) small)
+    (small, product_is c.args.coeff _ c.args.by fits c.power_of_ten-then-unsigned_abs-power_of_ten.ensures.value (omega arith) small)
 
 pub returns-else-unsigned_abs-power_of_ten : goal.returns-else-unsigned_abs-power_of_ten
 returns-else-unsigned_abs-power_of_ten c =
