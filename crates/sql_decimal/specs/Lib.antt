@@ -1,3 +1,6 @@
 pub mod Arithmetic
 pub mod Decimal
+pub mod NumberText
 pub mod Printing
+pub mod Reading
+pub mod Resume

@@ -4,7 +4,10 @@
 mod arithmetic;
 mod compare;
 mod decimal;
+mod number;
 mod powers;
 mod print;
+mod reader;
 
 pub use crate::decimal::{Dec, NumFault};
+pub use crate::number::Num;
