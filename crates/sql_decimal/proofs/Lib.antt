@@ -1,4 +1,5 @@
 pub mod Lengths
+pub mod OutOfRange
 pub mod Outcomes
 pub mod PowersOfTen
 pub mod Scaling

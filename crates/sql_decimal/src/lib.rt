@@ -7,6 +7,7 @@ mod decimal;
 mod number;
 mod powers;
 mod print;
+mod read;
 mod reader;
 
 pub use crate::decimal::{Dec, NumFault};

@@ -1,6 +1,6 @@
 //! The reader of number texts, which takes one character at a time and keeps no text.
 ghost use Rattle.std.specs.Bool.{MatchBool};
-ghost use Rattle.std.specs.Prelude.{◌≡◌, ℕ, List, ◌∷◌, ◌+◌, ◌*◌, ◌-◌, ◌^◌, ◌<◌, ◌≤◌, [], if◌then◌else◌, Some, None, true, false, IfSome, min, unsigned_abs};
+ghost use Rattle.std.specs.Prelude.{◌≡◌, ℕ, List, ◌∷◌, ◌+◌, ◌*◌, ◌-◌, ◌^◌, ◌<◌, ◌≤◌, [], if◌then◌else◌, Some, None, true, false, IfSome, min, unsigned_abs, ◌*ℤ◌, pos};
 ghost use Rattle.std.specs.Option.{SomeIff};
 ghost use Rattle.std.specs.Char.{is_ascii_digit, digit_value};
 ghost use Rattle.sql_decimal.specs.NumberText.{signed, whole_number, decimal_number, scaled_number};
@@ -113,6 +113,7 @@ impl Reader {
     }
 
     /// Takes the next character, or answers false where no number text has it there.
+    #[tactic(auto, unfolding(crate::specs::Resume::resume, crate::specs::Resume::Takes))]
     pub(crate) fn step(&mut self, c: char) -> bool
         requires digits { self.old.mantissa < 10 ^ 38 }
         requires places { self.old.places < 2 ^ 63 }
@@ -203,6 +204,7 @@ impl Reader {
     }
 
     /// Where the first digit after the point must stand.
+    #[tactic(auto, unfolding(crate::specs::Resume::resume, crate::specs::Resume::Takes))]
     fn first_place(&mut self, c: char) -> bool
         requires place { self.old.place ≡ Place.Point }
         requires digits { self.old.mantissa < 10 ^ 38 }
@@ -302,6 +304,7 @@ impl Reader {
     }
 
     /// One digit more before the point.
+    #[tactic(auto, unfolding(crate::specs::Resume::resume))]
     fn push_whole(&mut self, c: char) -> bool
         requires digits { self.old.mantissa < 10 ^ 38 }
         requires place { self.old.place ≡ Place.Whole }
@@ -325,6 +328,7 @@ impl Reader {
     }
 
     /// One digit more after the point.
+    #[tactic(auto, unfolding(crate::specs::Resume::resume))]
     fn push_place(&mut self, c: char) -> bool
         requires digits { self.old.mantissa < 10 ^ 38 }
         requires places { self.old.places < 2 ^ 63 }
@@ -348,5 +352,93 @@ impl Reader {
         self.places += 1;
         self.place = Place::Fraction;
         true
+    }
+}
+
+impl Reader {
+    /// The number that was read, if one may end here.
+    #[tactic(auto, unfolding(crate::specs::Resume::resume, crate::specs::Reading::number_of))]
+    pub(crate) fn finish(&self) -> Option<Num>
+        requires digits { self.now.mantissa < 10 ^ 38 }
+        requires places { self.now.places < 2 ^ 63 }
+        requires exponent { self.now.exponent ≤ 10 ^ 19 }
+        ensures { result ≡ resume self.now [] }
+    {
+        match self.place {
+            Place::Whole | Place::AfterWhole => self.whole_number(),
+            Place::Fraction | Place::AfterFraction => self.fixed_number(),
+            Place::Exponent | Place::AfterExponent => self.scaled_number(),
+            Place::Before | Place::Sign | Place::Point | Place::Mark | Place::ExponentSign => None,
+        }
+    }
+
+    /// The digits with their sign.
+    fn coeff(&self) -> i128
+        requires { self.now.mantissa < 10 ^ 38 }
+        ensures value { result ≡ signed self.now.negative self.now.mantissa }
+        ensures digits { unsigned_abs result < 10 ^ 38 }
+    {
+        let coeff = self.mantissa as i128;
+        if self.negative { -coeff } else { coeff }
+    }
+
+    /// The number of digits without a point and an exponent.
+    fn whole_number(&self) -> Option<Num>
+        requires { self.now.mantissa < 10 ^ 38 }
+        ensures { result ≡ whole_number self.now.negative self.now.mantissa }
+    {
+        let coeff = self.coeff();
+        match i64::try_from(coeff) {
+            Ok(int) => Some(Num::Int(int)),
+            Err(_) => decimal(coeff, 0),
+        }
+    }
+
+    /// The number of digits with a point.
+    fn fixed_number(&self) -> Option<Num>
+        requires { self.now.mantissa < 10 ^ 38 }
+        ensures { result ≡ decimal_number (signed self.now.negative self.now.mantissa) self.now.places }
+    {
+        decimal(self.coeff(), self.places)
+    }
+
+    /// The number of digits with an exponent.
+    fn scaled_number(&self) -> Option<Num>
+        requires digits { self.now.mantissa < 10 ^ 38 }
+        requires places { self.now.places < 2 ^ 63 }
+        ensures {
+            result ≡ scaled_number self.now.negative self.now.mantissa self.now.places (signed self.now.exponent_negative self.now.exponent)
+        }
+    {
+        if self.mantissa == 0 {
+            return decimal(0, 0);
+        }
+        if self.exponent_negative {
+            return decimal(self.coeff(), self.places.saturating_add(self.exponent));
+        }
+        match self.places.checked_sub(self.exponent) {
+            Some(scale) => decimal(self.coeff(), scale),
+            None => product(self.coeff(), self.exponent - self.places),
+        }
+    }
+}
+
+/// `coeff` / 10^`scale`, where that is a decimal.
+fn decimal(coeff: i128, scale: u64) -> Option<Num>
+    ensures { result ≡ decimal_number coeff scale }
+{
+    let scale = u8::try_from(scale).ok()?;
+    Dec::make(coeff, scale).map(Num::Dec)
+}
+
+/// `coeff` times 10^`by`, where that is a decimal. It is none where `by` is over 38.
+fn product(coeff: i128, by: u64) -> Option<Num>
+    requires digits { unsigned_abs coeff < 10 ^ 38 }
+    requires nonzero { 0 < unsigned_abs coeff }
+    ensures { result ≡ decimal_number (coeff *ℤ pos (10 ^ by)) 0 }
+{
+    match u8::try_from(by) {
+        Ok(by) => scaled(coeff, by).map(|coeff| Num::Dec(Dec::of(coeff, 0))),
+        Err(_) => None,
     }
 }
