@@ -2,4 +2,5 @@ pub mod Lengths
 pub mod OutOfRange
 pub mod Outcomes
 pub mod PowersOfTen
+pub mod ReadingOn
 pub mod Scaling

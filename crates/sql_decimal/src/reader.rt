@@ -361,7 +361,6 @@ impl Reader {
     pub(crate) fn finish(&self) -> Option<Num>
         requires digits { self.now.mantissa < 10 ^ 38 }
         requires places { self.now.places < 2 ^ 63 }
-        requires exponent { self.now.exponent ≤ 10 ^ 19 }
         ensures { result ≡ resume self.now [] }
     {
         match self.place {
