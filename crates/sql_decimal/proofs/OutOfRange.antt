@@ -86,7 +86,7 @@ in_fraction-over b m f [] h = decimal_number-over (signed b m) f (omega (arith, 
 in_fraction-over b m f (c ∷ cs) h =
     choice-same (is_ascii_digit c) _ _ _ (in_fraction-over b (with_digit m c) (f + 1) cs (omega arith))
     (choice-same (is_mark c) _ _ _ (after_mark-over b m f cs h)
-      (ap (λ n. after_number n (c ∷ cs)) (decimal_number-over (signed b m) f (omega (arith, unsigned_abs-signed b m))) ∙ after_number-none (c ∷ cs)))
+    (ap (λ n. after_number n (c ∷ cs)) (decimal_number-over (signed b m) f (omega (arith, unsigned_abs-signed b m))) ∙ after_number-none (c ∷ cs)))
 
 fraction_digits-over : (b : Bool) (m : ℕ) (cs : List ℕ) → 10 ^ 38 ≤ m → fraction_digits b m cs ≡ None
 fraction_digits-over b m [] h = refl
@@ -98,8 +98,8 @@ in_whole-over b m [] h = whole_number-over b m h
 in_whole-over b m (c ∷ cs) h =
     choice-same (is_ascii_digit c) _ _ _ (in_whole-over b (with_digit m c) cs (omega arith))
     (choice-same (c == decimal_point) _ _ _ (fraction_digits-over b m cs h)
-      (choice-same (is_mark c) _ _ _ (after_mark-over b m 0 cs h)
-        (ap (λ n. after_number n (c ∷ cs)) (whole_number-over b m h) ∙ after_number-none (c ∷ cs))))
+    (choice-same (is_mark c) _ _ _ (after_mark-over b m 0 cs h)
+    (ap (λ n. after_number n (c ∷ cs)) (whole_number-over b m h) ∙ after_number-none (c ∷ cs))))
 
 -- ---- exponents that are far off, with fewer than 2 ^ 63 places
 

@@ -84,7 +84,7 @@ unfolding compared
 compared_left a b h =
     scale_cmp _ _ (10 ^ a.scale) (ten_pow_pos a.scale)
     ∙ ap (λ z. int_cmp z (b.coefficient *ℤ pos (10 ^ a.scale))) (scale_scale a.coefficient (10 ^ (b.scale - a.scale)) (10 ^ a.scale)
-      ∙ ap (λ n. a.coefficient *ℤ pos n) (sym (pow_split (b.scale - a.scale) a.scale b.scale (omega arith))))
+    ∙ ap (λ n. a.coefficient *ℤ pos n) (sym (pow_split (b.scale - a.scale) a.scale b.scale (omega arith))))
 
 -- the same of values that are known to be the parts of the two decimals
 pub compared_by_left : (a b : Decimal) (r : Ordering) (x y : ℤ) (k : ℕ) → r ≡ int_cmp (x *ℤ pos (10 ^ k)) y → x ≡ a.coefficient → y ≡ b.coefficient → k ≡ b.scale - a.scale → a.scale ≤ b.scale → r ≡ compared a b

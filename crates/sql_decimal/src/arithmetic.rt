@@ -23,13 +23,11 @@ fn align(left: &Dec, right: &Dec) -> Option<Aligned>
     ensures left_digits { IfSome result (λ pair. unsigned_abs pair.left < 10 ^ 38) }
     ensures right_digits { IfSome result (λ pair. unsigned_abs pair.right < 10 ^ 38) }
     ensures scale { IfSome result (λ pair. pair.scale ≤ 38) }
-    ensures value {
-        SomeIff result (IsTrue (are_aligned left.now right.now)) (record {
-          left = aligned left.now (common_scale left.now right.now);
-          right = aligned right.now (common_scale left.now right.now);
-          scale = common_scale left.now right.now;
-        })
-    }
+    ensures value { SomeIff result (IsTrue (are_aligned left.now right.now)) (record {
+      left = aligned left.now (common_scale left.now right.now);
+      right = aligned right.now (common_scale left.now right.now);
+      scale = common_scale left.now right.now;
+    }) }
 {
     let scale = left.scale().max(right.scale());
     let left = scaled(left.coeff(), scale - left.scale())?;
@@ -216,9 +214,7 @@ impl Dec {
     /// The coefficient of the number cut toward zero at a scale, where it has at most 38 digits.
     fn at_scale(&self, scale: u8) -> Option<i128>
         requires { scale ≤ 38 }
-        ensures {
-            SomeIff result (unsigned_abs (cut_coefficient self.now scale) < 10 ^ 38) (cut_coefficient self.now scale)
-        }
+        ensures { SomeIff result (unsigned_abs (cut_coefficient self.now scale) < 10 ^ 38) (cut_coefficient self.now scale) }
     {
         if self.scale() <= scale {
             scaled(self.coeff(), scale - self.scale())

@@ -3,10 +3,9 @@ ghost use Rattle.std.specs.Prelude.{◌≡◌, ◌^◌, ◌<◌, pos, ◌*ℤ◌
 ghost use Rattle.std.specs.Ordering.{int_cmp};
 ghost use Rattle.sql_decimal.specs.Decimal.{compared};
 
-use std::cmp::Ordering;
-
 use crate::decimal::Dec;
 use crate::powers::scaled;
+use std::cmp::Ordering;
 
 /// `left` times 10^by against `right`. A product of over 38 digits is past `right` on its own side.
 fn compare_scaled(left: i128, by: u8, right: i128) -> Ordering

@@ -2,9 +2,8 @@
 ghost use Rattle.std.specs.Prelude.{◌≡◌, ◌^◌, ◌<◌, ◌≤◌, neg_ℤ, unsigned_abs};
 ghost use Rattle.std.specs.Option.{SomeIff};
 
-use std::marker::Model;
-
 use crate::powers::power_of_ten;
+use std::marker::Model;
 
 /// Why an operation on decimals has no answer.
 #[derive(Clone, Copy, Debug, PartialEq, Eq)]

@@ -9,6 +9,8 @@ mod powers;
 mod print;
 mod read;
 mod reader;
+#[cfg(test)]
+mod tests;
 
 pub use crate::decimal::{Dec, NumFault};
 pub use crate::number::Num;

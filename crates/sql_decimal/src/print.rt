@@ -3,10 +3,9 @@ ghost use Rattle.std.specs.Prelude.{◌≡◌, ◌+◌, ◌-◌, ◌^◌, ◌<�
 ghost use Rattle.arrayvec.specs.ArrayString.{array_string_len};
 ghost use Rattle.sql_decimal.specs.Printing.{sign_of, padded, printed};
 
-use arrayvec::ArrayString;
-
 use crate::decimal::Dec;
 use crate::powers::power_of_ten;
+use arrayvec::ArrayString;
 
 /// The longest text, of a number below zero with 38 digits after the point, has 41 bytes.
 type DecimalText = ArrayString<48>;

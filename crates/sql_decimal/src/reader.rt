@@ -161,9 +161,7 @@ impl Reader {
     #[tactic(auto, unfolding(crate::specs::Resume::resume))]
     fn first_digit(&mut self, c: char) -> bool
         requires { self.old.mantissa < 10 ^ 38 }
-        ensures takes {
-            (rest : List ℕ) → MatchBool result (whole_digits self.old.negative (c ∷ rest) ≡ resume self.new rest) (whole_digits self.old.negative (c ∷ rest) ≡ None)
-        }
+        ensures takes { (rest : List ℕ) → MatchBool result (whole_digits self.old.negative (c ∷ rest) ≡ resume self.new rest) (whole_digits self.old.negative (c ∷ rest) ≡ None) }
         ensures digits { self.new.mantissa < 10 ^ 38 }
         ensures places { self.new.places ≡ self.old.places }
     {
@@ -175,6 +173,7 @@ impl Reader {
         true
     }
 }
+
 impl Reader {
     /// Within the digits before the point.
     #[tactic(auto, unfolding(crate::specs::Resume::resume, crate::specs::Resume::Takes))]
@@ -265,11 +264,9 @@ impl Reader {
     #[tactic(auto, unfolding(crate::specs::Resume::resume))]
     fn first_exponent(&mut self, c: char) -> bool
         requires { self.old.mantissa < 10 ^ 38 }
-        ensures takes {
-            (rest : List ℕ) → MatchBool result
+        ensures takes { (rest : List ℕ) → MatchBool result
             (exponent_digits self.old.negative self.old.mantissa self.old.places self.old.exponent_negative (c ∷ rest) ≡ resume self.new rest)
-            (exponent_digits self.old.negative self.old.mantissa self.old.places self.old.exponent_negative (c ∷ rest) ≡ None)
-        }
+            (exponent_digits self.old.negative self.old.mantissa self.old.places self.old.exponent_negative (c ∷ rest) ≡ None) }
         ensures digits { self.new.mantissa < 10 ^ 38 }
         ensures places { self.new.places ≡ self.old.places }
     {
@@ -308,12 +305,10 @@ impl Reader {
     fn push_whole(&mut self, c: char) -> bool
         requires digits { self.old.mantissa < 10 ^ 38 }
         requires place { self.old.place ≡ Place.Whole }
-        ensures takes {
-            is_ascii_digit c ≡ true →
+        ensures takes { is_ascii_digit c ≡ true →
             (rest : List ℕ) → MatchBool result
             (in_whole self.old.negative (with_digit self.old.mantissa c) rest ≡ resume self.new rest)
-            (in_whole self.old.negative (with_digit self.old.mantissa c) rest ≡ None)
-        }
+            (in_whole self.old.negative (with_digit self.old.mantissa c) rest ≡ None) }
         ensures digits { self.new.mantissa < 10 ^ 38 }
         ensures places { self.new.places ≡ self.old.places }
     {
@@ -332,12 +327,10 @@ impl Reader {
     fn push_place(&mut self, c: char) -> bool
         requires digits { self.old.mantissa < 10 ^ 38 }
         requires places { self.old.places < 2 ^ 63 }
-        ensures takes {
-            is_ascii_digit c ≡ true →
+        ensures takes { is_ascii_digit c ≡ true →
             (rest : List ℕ) → MatchBool result
             (in_fraction self.old.negative (with_digit self.old.mantissa c) (self.old.places + 1) rest ≡ resume self.new rest)
-            (in_fraction self.old.negative (with_digit self.old.mantissa c) (self.old.places + 1) rest ≡ None)
-        }
+            (in_fraction self.old.negative (with_digit self.old.mantissa c) (self.old.places + 1) rest ≡ None) }
         ensures refuses { is_ascii_digit c ≡ false → result ≡ false }
         ensures digits { self.new.mantissa < 10 ^ 38 }
         ensures places { self.new.places ≤ self.old.places + 1 }
@@ -405,9 +398,7 @@ impl Reader {
     fn scaled_number(&self) -> Option<Num>
         requires digits { self.now.mantissa < 10 ^ 38 }
         requires places { self.now.places < 2 ^ 63 }
-        ensures {
-            result ≡ scaled_number self.now.negative self.now.mantissa self.now.places (signed self.now.exponent_negative self.now.exponent)
-        }
+        ensures { result ≡ scaled_number self.now.negative self.now.mantissa self.now.places (signed self.now.exponent_negative self.now.exponent) }
     {
         if self.mantissa == 0 {
             return decimal(0, 0);

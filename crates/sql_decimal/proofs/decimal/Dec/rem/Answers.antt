@@ -11,7 +11,7 @@ pub left_over-requires-clause-divisor : goal.left_over-requires-clause-divisor
 left_over-requires-clause-divisor c =
     let same = passed c.in-Some.pair.right _ c.in-Some.ensures.right_digits (ap (λ (p : Aligned). p.right) c.in-Some.ensures.value.1) in
     λ zero. scale-nonzero c.args.other.now.coefficient _ (ten_pow_pos (common_scale c.args.self.now c.args.other.now - c.args.other.now.scale))
-      (λ none. c.if-coeff-eq0.false (ap (of_z w128) (c.coeff.ensures.value ∙ none))) (sym same ∙ zero)
+    (λ none. c.if-coeff-eq0.false (ap (of_z w128) (c.coeff.ensures.value ∙ none))) (sym same ∙ zero)
 
 pub returns-in-Some : goal.returns-in-Some
 returns-in-Some c =

@@ -11,5 +11,5 @@ returns-in-Some-clause-takes c =
     let digit = c.in-Some.ensures.value.1 in
     let pushed = c.push_exponent-self.ensures in
     λ rest. rw (c.requires.place, c.in-Some.ensures.value.0) (
-      in_exponent-min s.negative s.mantissa s.places s.exponent_negative (with_digit s.exponent c.args.c) rest c.requires.places
-      ∙ ap (λ e. in_exponent s.negative s.mantissa s.places s.exponent_negative e rest) (omega (arith, digit, pushed)))
+    in_exponent-min s.negative s.mantissa s.places s.exponent_negative (with_digit s.exponent c.args.c) rest c.requires.places
+    ∙ ap (λ e. in_exponent s.negative s.mantissa s.places s.exponent_negative e rest) (omega (arith, digit, pushed)))
