@@ -1,3 +1,5 @@
+pub mod Grammar
+pub mod GrammarBack
 pub mod Lengths
 pub mod OutOfRange
 pub mod Outcomes

@@ -2,6 +2,7 @@
 ghost use Rattle.std.specs.Prelude.{◌≡◌, ℕ, List, ◌^◌, ◌<◌, MatchOption};
 ghost use Rattle.std.specs.Iterator.{IsFinite, size, AlwaysYields};
 ghost use Rattle.sql_decimal.specs.NumberText.{Spells};
+ghost use Rattle.sql_decimal.specs.declared.number.Num.{Num};
 ghost use Rattle.sql_decimal.specs.Reading.{number_of};
 
 use crate::decimal::Dec;
@@ -19,6 +20,7 @@ impl Dec {
         requires ends { IsFinite (I.remaining chars) }
         requires fits { size (I.remaining chars) < 2 ^ 63 }
         ensures number { (cs : List ℕ) → AlwaysYields I.next_gives (λ c. c) chars cs → result ≡ number_of cs }
+        ensures grammar { (cs : List ℕ) → AlwaysYields I.next_gives (λ c. c) chars cs → MatchOption result ((n : Num) → ¬ Spells cs n) (Spells cs) }
     {
         let mut reader = Reader::new();
         for c in chars {
