@@ -59,9 +59,9 @@ exponent_digits-digits b m f below [] k h = absurd (omega (arith, h.some))
 exponent_digits-digits b m f below (d ∷ ds) k h =
     let p = both (is_ascii_digit d) (all_ascii_digits ds) h.all in
     rw p.0 (
-      in_exponent-digits b m f below (digit_value d) ds (replicate k space) p.1
-      ∙ in_exponent-spaces b m f below (digits_value_after 10 (digit_value d) ds) k
-      ∙ ap (λ n. scaled_number b m f (signed below n)) (digits_value-first d ds))
+    in_exponent-digits b m f below (digit_value d) ds (replicate k space) p.1
+    ∙ in_exponent-spaces b m f below (digits_value_after 10 (digit_value d) ds) k
+    ∙ ap (λ n. scaled_number b m f (signed below n)) (digits_value-first d ds))
 
 after_mark-sign : (b : Bool) (m f : ℕ) (s : Option Sign) (ds : List ℕ) (k : ℕ) → IsDigits ds
     → after_mark b m f ((print_sign s ++ ds) ++ replicate k space) ≡ scaled_number b m f (signed (is_minus s) (digits_value 10 ds))

@@ -51,9 +51,9 @@ exponent_tail b m f below e [] n h = record { digits = []; all = refl; count = 0
 exponent_tail b m f below e (c ∷ cs) n h =
     elim (taken (is_ascii_digit c) (in_exponent b m f below (with_digit e c) cs) (after_number (scaled_number b m f (signed below e)) (c ∷ cs)) (Some n) h) [
       | inl p ↦ let t = exponent_tail b m f below (with_digit e c) cs n p.1 in
-        record { digits = c ∷ t.digits; all = rw p.0 t.all; count = t.count; characters = ap (λ s. c ∷ s) t.characters; number = t.number }
+          record { digits = c ∷ t.digits; all = rw p.0 t.all; count = t.count; characters = ap (λ s. c ∷ s) t.characters; number = t.number }
       | inr p ↦ let t = blanks (scaled_number b m f (signed below e)) (c ∷ cs) n p.1 in
-        record { digits = []; all = refl; count = t.count; characters = t.characters; number = t.number }
+          record { digits = []; all = refl; count = t.count; characters = t.characters; number = t.number }
     ]
 
 record ExponentDigits (b : Bool) (m f : ℕ) (below : Bool) (cs : List ℕ) (n : Num) : Type 0 where
@@ -68,13 +68,13 @@ exponent_part b m f below [] n h = let no : None ≡ Some n = h in cc
 exponent_part b m f below (c ∷ cs) n h =
     elim (taken (is_ascii_digit c) (in_exponent b m f below (digit_value c) cs) None (Some n) h) [
       | inl p ↦ let t = exponent_tail b m f below (digit_value c) cs n p.1 in
-        record {
-          digits = c ∷ t.digits;
-          valid = digits-first c t.digits p.0 t.all;
-          count = t.count;
-          characters = ap (λ s. c ∷ s) t.characters;
-          number = ap (λ v. scaled_number b m f (signed below v)) (sym (digits_value-first c t.digits)) ∙ t.number;
-        }
+          record {
+            digits = c ∷ t.digits;
+            valid = digits-first c t.digits p.0 t.all;
+            count = t.count;
+            characters = ap (λ s. c ∷ s) t.characters;
+            number = ap (λ v. scaled_number b m f (signed below v)) (sym (digits_value-first c t.digits)) ∙ t.number;
+          }
       | inr p ↦ let no : None ≡ Some n = p.1 in cc
     ]
 
@@ -91,14 +91,14 @@ mark_tail b m f [] n h = let no : None ≡ Some n = h in cc
 mark_tail b m f (c ∷ cs) n h =
     elim (taken (c == minus_sign) (exponent_digits b m f true cs) (if c == plus_sign then exponent_digits b m f false cs else exponent_digits b m f false (c ∷ cs)) (Some n) h) [
       | inl p ↦ let t = exponent_part b m f true cs n p.1 in
-        record { sign = Some minus; digits = t.digits; valid = t.valid; count = t.count; characters = cons c minus_sign cs _ (exact_unsigned_eq c minus_sign p.0) t.characters; number = t.number }
+          record { sign = Some minus; digits = t.digits; valid = t.valid; count = t.count; characters = cons c minus_sign cs _ (exact_unsigned_eq c minus_sign p.0) t.characters; number = t.number }
       | inr q ↦
-        elim (taken (c == plus_sign) (exponent_digits b m f false cs) (exponent_digits b m f false (c ∷ cs)) (Some n) q.1) [
-          | inl p ↦ let t = exponent_part b m f false cs n p.1 in
-            record { sign = Some plus; digits = t.digits; valid = t.valid; count = t.count; characters = cons c plus_sign cs _ (exact_unsigned_eq c plus_sign p.0) t.characters; number = t.number }
-          | inr p ↦ let t = exponent_part b m f false (c ∷ cs) n p.1 in
-            record { sign = None; digits = t.digits; valid = t.valid; count = t.count; characters = t.characters; number = t.number }
-        ]
+          elim (taken (c == plus_sign) (exponent_digits b m f false cs) (exponent_digits b m f false (c ∷ cs)) (Some n) q.1) [
+            | inl p ↦ let t = exponent_part b m f false cs n p.1 in
+                record { sign = Some plus; digits = t.digits; valid = t.valid; count = t.count; characters = cons c plus_sign cs _ (exact_unsigned_eq c plus_sign p.0) t.characters; number = t.number }
+            | inr p ↦ let t = exponent_part b m f false (c ∷ cs) n p.1 in
+                record { sign = None; digits = t.digits; valid = t.valid; count = t.count; characters = t.characters; number = t.number }
+          ]
     ]
 
 -- the character of a mark
@@ -134,38 +134,38 @@ fraction_tail b m f [] n h = record {
 fraction_tail b m f (c ∷ cs) n h =
     elim (taken (is_ascii_digit c) (in_fraction b (with_digit m c) (f + 1) cs) (if is_mark c then after_mark b m f cs else after_number (decimal_number (signed b m) f) (c ∷ cs)) (Some n) h) [
       | inl p ↦ let t = fraction_tail b (with_digit m c) (f + 1) cs n p.1 in
-        record {
-          digits = c ∷ t.digits;
-          all = rw p.0 t.all;
-          exponent = t.exponent;
-          valid = t.valid;
-          count = t.count;
-          characters = ap (λ s. c ∷ s) t.characters;
-          number = ap (λ k. fixed_from b (digits_value_after 10 (with_digit m c) t.digits) k t.exponent) (omega arith) ∙ t.number;
-        }
+          record {
+            digits = c ∷ t.digits;
+            all = rw p.0 t.all;
+            exponent = t.exponent;
+            valid = t.valid;
+            count = t.count;
+            characters = ap (λ s. c ∷ s) t.characters;
+            number = ap (λ k. fixed_from b (digits_value_after 10 (with_digit m c) t.digits) k t.exponent) (omega arith) ∙ t.number;
+          }
       | inr q ↦
-        elim (taken (is_mark c) (after_mark b m f cs) (after_number (decimal_number (signed b m) f) (c ∷ cs)) (Some n) q.1) [
-          | inl p ↦ let t = mark_tail b m f cs n p.1 in let k = mark_char c p.0 in
-            record {
-              digits = [];
-              all = refl;
-              exponent = Some (record { capital = k.0; sign = t.sign; digits = t.digits });
-              valid = t.valid;
-              count = t.count;
-              characters = cons c _ cs _ k.1 t.characters;
-              number = ap (λ v. scaled_number b m v (signed (is_minus t.sign) (digits_value 10 t.digits))) (omega arith) ∙ t.number;
-            }
-          | inr p ↦ let t = blanks (decimal_number (signed b m) f) (c ∷ cs) n p.1 in
-            record {
-              digits = [];
-              all = refl;
-              exponent = None;
-              valid = tt;
-              count = t.count;
-              characters = t.characters;
-              number = ap (decimal_number (signed b m)) (omega arith) ∙ t.number;
-            }
-        ]
+          elim (taken (is_mark c) (after_mark b m f cs) (after_number (decimal_number (signed b m) f) (c ∷ cs)) (Some n) q.1) [
+            | inl p ↦ let t = mark_tail b m f cs n p.1 in let k = mark_char c p.0 in
+                record {
+                  digits = [];
+                  all = refl;
+                  exponent = Some (record { capital = k.0; sign = t.sign; digits = t.digits });
+                  valid = t.valid;
+                  count = t.count;
+                  characters = cons c _ cs _ k.1 t.characters;
+                  number = ap (λ v. scaled_number b m v (signed (is_minus t.sign) (digits_value 10 t.digits))) (omega arith) ∙ t.number;
+                }
+            | inr p ↦ let t = blanks (decimal_number (signed b m) f) (c ∷ cs) n p.1 in
+                record {
+                  digits = [];
+                  all = refl;
+                  exponent = None;
+                  valid = tt;
+                  count = t.count;
+                  characters = t.characters;
+                  number = ap (decimal_number (signed b m)) (omega arith) ∙ t.number;
+                }
+          ]
     ]
 
 record FractionDigits (b : Bool) (m : ℕ) (cs : List ℕ) (n : Num) : Type 0 where
@@ -182,15 +182,15 @@ fraction_part b m [] n h = let no : None ≡ Some n = h in cc
 fraction_part b m (c ∷ cs) n h =
     elim (taken (is_ascii_digit c) (in_fraction b (with_digit m c) 1 cs) None (Some n) h) [
       | inl p ↦ let t = fraction_tail b (with_digit m c) 1 cs n p.1 in
-        record {
-          digits = c ∷ t.digits;
-          digits_valid = digits-first c t.digits p.0 t.all;
-          exponent = t.exponent;
-          valid = t.valid;
-          count = t.count;
-          characters = ap (λ s. c ∷ s) t.characters;
-          number = ap (λ k. fixed_from b (digits_value_after 10 (with_digit m c) t.digits) k t.exponent) (omega arith) ∙ t.number;
-        }
+          record {
+            digits = c ∷ t.digits;
+            digits_valid = digits-first c t.digits p.0 t.all;
+            exponent = t.exponent;
+            valid = t.valid;
+            count = t.count;
+            characters = ap (λ s. c ∷ s) t.characters;
+            number = ap (λ k. fixed_from b (digits_value_after 10 (with_digit m c) t.digits) k t.exponent) (omega arith) ∙ t.number;
+          }
       | inr p ↦ let no : None ≡ Some n = p.1 in cc
     ]
 
@@ -234,17 +234,17 @@ whole_tail b m [] n h = record {
 whole_tail b m (c ∷ cs) n h =
     elim (taken (is_ascii_digit c) (in_whole b (with_digit m c) cs) (after_digits b m c cs) (Some n) h) [
       | inl p ↦ let t = whole_tail b (with_digit m c) cs n p.1 in
-        record {
-          digits = c ∷ t.digits;
-          all = rw p.0 t.all;
-          fraction = t.fraction;
-          fraction_valid = t.fraction_valid;
-          exponent = t.exponent;
-          valid = t.valid;
-          count = t.count;
-          characters = ap (λ s. c ∷ s) t.characters;
-          number = t.number;
-        }
+          record {
+            digits = c ∷ t.digits;
+            all = rw p.0 t.all;
+            fraction = t.fraction;
+            fraction_valid = t.fraction_valid;
+            exponent = t.exponent;
+            valid = t.valid;
+            count = t.count;
+            characters = ap (λ s. c ∷ s) t.characters;
+            number = t.number;
+          }
       | inr p ↦ ended c cs p.1
     ]
   where
@@ -252,45 +252,46 @@ whole_tail b m (c ∷ cs) n h =
     marked d ds e =
         elim (taken (is_mark d) (after_mark b m 0 ds) (after_number (whole_number b m) (d ∷ ds)) (Some n) e) [
           | inl p ↦ let t = mark_tail b m 0 ds n p.1 in let k = mark_char d p.0 in
-            record {
-              digits = [];
-              all = refl;
-              fraction = None;
-              fraction_valid = tt;
-              exponent = Some (record { capital = k.0; sign = t.sign; digits = t.digits });
-              valid = t.valid;
-              count = t.count;
-              characters = cons d _ ds _ k.1 t.characters;
-              number = t.number;
-            }
+              record {
+                digits = [];
+                all = refl;
+                fraction = None;
+                fraction_valid = tt;
+                exponent = Some (record { capital = k.0; sign = t.sign; digits = t.digits });
+                valid = t.valid;
+                count = t.count;
+                characters = cons d _ ds _ k.1 t.characters;
+                number = t.number;
+              }
           | inr p ↦ let t = blanks (whole_number b m) (d ∷ ds) n p.1 in
-            record {
-              digits = [];
-              all = refl;
-              fraction = None;
-              fraction_valid = tt;
-              exponent = None;
-              valid = tt;
-              count = t.count;
-              characters = t.characters;
-              number = t.number;
-            }
+              record {
+                digits = [];
+                all = refl;
+                fraction = None;
+                fraction_valid = tt;
+                exponent = None;
+                valid = tt;
+                count = t.count;
+                characters = t.characters;
+                number = t.number;
+              }
         ]
+
     ended : (d : ℕ) (ds : List ℕ) → after_digits b m d ds ≡ Some n → WholeTail b m (d ∷ ds) n
     ended d ds e =
         elim (taken (d == decimal_point) (fraction_digits b m ds) (after_marked b m d ds) (Some n) e) [
           | inl p ↦ let t = fraction_part b m ds n p.1 in
-            record {
-              digits = [];
-              all = refl;
-              fraction = Some t.digits;
-              fraction_valid = t.digits_valid;
-              exponent = t.exponent;
-              valid = t.valid;
-              count = t.count;
-              characters = cons d decimal_point ds _ (exact_unsigned_eq d decimal_point p.0) t.characters;
-              number = number_from-fixed b (digits_value_after 10 m t.digits) t.digits t.exponent ∙ t.number;
-            }
+              record {
+                digits = [];
+                all = refl;
+                fraction = Some t.digits;
+                fraction_valid = t.digits_valid;
+                exponent = t.exponent;
+                valid = t.valid;
+                count = t.count;
+                characters = cons d decimal_point ds _ (exact_unsigned_eq d decimal_point p.0) t.characters;
+                number = number_from-fixed b (digits_value_after 10 m t.digits) t.digits t.exponent ∙ t.number;
+              }
           | inr p ↦ marked d ds p.1
         ]
 
@@ -310,17 +311,17 @@ whole_part b [] n h = let no : None ≡ Some n = h in cc
 whole_part b (c ∷ cs) n h =
     elim (taken (is_ascii_digit c) (in_whole b (digit_value c) cs) None (Some n) h) [
       | inl p ↦ let t = whole_tail b (digit_value c) cs n p.1 in
-        record {
-          digits = c ∷ t.digits;
-          digits_valid = digits-first c t.digits p.0 t.all;
-          fraction = t.fraction;
-          fraction_valid = t.fraction_valid;
-          exponent = t.exponent;
-          valid = t.valid;
-          count = t.count;
-          characters = ap (λ s. c ∷ s) t.characters;
-          number = ap (λ v. number_from b (value_on v t.fraction) t.fraction t.exponent) (sym (digits_value-first c t.digits)) ∙ t.number;
-        }
+          record {
+            digits = c ∷ t.digits;
+            digits_valid = digits-first c t.digits p.0 t.all;
+            fraction = t.fraction;
+            fraction_valid = t.fraction_valid;
+            exponent = t.exponent;
+            valid = t.valid;
+            count = t.count;
+            characters = ap (λ s. c ∷ s) t.characters;
+            number = ap (λ v. number_from b (value_on v t.fraction) t.fraction t.exponent) (sym (digits_value-first c t.digits)) ∙ t.number;
+          }
       | inr p ↦ let no : None ≡ Some n = p.1 in cc
     ]
 
@@ -379,6 +380,7 @@ spells_from_number_of (c ∷ cs) n h =
           | inl p ↦ spells-same (plus_sign ∷ ds) (d ∷ ds) n (ap (λ x. x ∷ ds) (sym (exact_unsigned_eq d plus_sign p.0))) (text (Some plus) ds n (whole_part false ds n p.1))
           | inr p ↦ text None (d ∷ ds) n (whole_part false (d ∷ ds) n p.1)
         ]
+
     signs : (d : ℕ) (ds : List ℕ) → after_space d ds ≡ Some n → Spells (d ∷ ds) n
     signs d ds e =
         elim (taken (d == minus_sign) (whole_digits true ds) (after_minus d ds) (Some n) e) [

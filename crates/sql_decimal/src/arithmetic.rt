@@ -74,12 +74,22 @@ fn minus(left: i128, right: i128, scale: u8) -> Result<Dec, NumFault>
     }
 }
 
+/// A product of 64-bit numbers, which always fits.
+fn small_product(left: i64, right: i64) -> i128
+    ensures { result ≡ left *ℤ right }
+{
+    i128::from(left) * i128::from(right)
+}
+
 fn times(left: i128, right: i128, scale: u8) -> Result<Dec, NumFault>
     ensures { result ≡ decimal_or_overflow (left *ℤ right) scale }
 {
-    match left.checked_mul(right) {
-        Some(coeff) => checked(coeff, scale),
-        None => Err(NumFault::Overflow),
+    match (i64::try_from(left), i64::try_from(right)) {
+        (Ok(left), Ok(right)) => checked(small_product(left, right), scale),
+        _ => match left.checked_mul(right) {
+            Some(coeff) => checked(coeff, scale),
+            None => Err(NumFault::Overflow),
+        },
     }
 }
 
@@ -110,7 +120,10 @@ fn divided(left: i128, right: i128) -> i128
     ensures value { result ≡ int_div left right }
     ensures digits { unsigned_abs result < 10 ^ 38 }
 {
-    left / right
+    match (i64::try_from(left), i64::try_from(right)) {
+        (Ok(left), Ok(right)) if left != i64::MIN => i128::from(left / right),
+        _ => left / right,
+    }
 }
 
 /// What is left of `left` after division by `right`.
@@ -120,7 +133,10 @@ fn remaining(left: i128, right: i128) -> i128
     ensures value { result ≡ int_rem left right }
     ensures digits { unsigned_abs result < 10 ^ 38 }
 {
-    left % right
+    match (i64::try_from(left), i64::try_from(right)) {
+        (Ok(left), Ok(right)) if left != i64::MIN => i128::from(left % right),
+        _ => left % right,
+    }
 }
 
 impl Dec {
@@ -168,12 +184,13 @@ impl Dec {
     pub fn div(&self, other: &Dec) -> Result<Dec, NumFault>
         ensures { result ≡ quotient self.now other.now }
     {
-        if other.coeff() == 0 {
+        let divisor = other.coeff();
+        if divisor == 0 {
             return Err(NumFault::DivideByZero);
         }
         let scale = self.scale().max(other.scale()).max(QUOTIENT_SCALE);
         match scaled(self.coeff(), scale - self.scale() + other.scale()) {
-            Some(numerator) => over(numerator, other.coeff(), scale),
+            Some(numerator) => over(numerator, divisor, scale),
             None => Err(NumFault::Overflow),
         }
     }

@@ -5,99 +5,127 @@ use std::test::Fail;
 /// The number 10^38 - 1, the largest of 38 digits.
 const LARGEST: i128 = 99_999_999_999_999_999_999_999_999_999_999_999_999;
 
-/// The decimal `coeff` / 10^`scale`.
-fn decimal(coeff: i128, scale: u8) -> Result<Dec, Fail> {
-    Ok(Dec::make(coeff, scale).ok_or("no decimal")?)
+/// A coefficient and a scale.
+type Parts = (i128, u8);
+
+/// The operations of two decimals.
+#[derive(Clone, Copy, Debug)]
+enum Operation {
+    Add,
+    Sub,
+    Mul,
+    Div,
+    Rem,
 }
 
-/// The decimal as a number.
-fn number(coeff: i128, scale: u8) -> Option<Num> {
-    Dec::make(coeff, scale).map(Num::Dec)
+fn apply(operation: Operation, left: &Dec, right: &Dec) -> Result<Dec, NumFault> {
+    match operation {
+        Operation::Add => left.add(right),
+        Operation::Sub => left.sub(right),
+        Operation::Mul => left.mul(right),
+        Operation::Div => left.div(right),
+        Operation::Rem => left.rem(right),
+    }
+}
+
+fn decimal(parts: Parts) -> Result<Dec, Fail> {
+    Ok(Dec::make(parts.0, parts.1).ok_or("no decimal")?)
+}
+
+fn parts(decimal: Dec) -> Parts {
+    (decimal.coeff(), decimal.scale())
+}
+
+/// Whether the number is an Int, with its coefficient and scale.
+fn number_parts(number: Num) -> (bool, i128, u8) {
+    match number {
+        Num::Int(int) => (true, i128::from(int), 0),
+        Num::Dec(decimal) => (false, decimal.coeff(), decimal.scale()),
+    }
 }
 
 #[test]
-fn arithmetic_of_known_decimals(rt: HostRuntime) -> Result<(), Fail> {
-    assert_eq!(rt; decimal(1, 1)?.add(&decimal(2, 1)?), Ok(decimal(3, 1)?));
-    assert_eq!(rt;
-        decimal(10, 1)?.div(&decimal(3, 0)?),
-        Ok(decimal(333_333, 6)?)
-    );
-    assert_eq!(rt;
-        decimal(LARGEST, 0)?.add(&decimal(1, 0)?),
-        Err(NumFault::Overflow)
-    );
-    assert_eq!(rt; decimal(5, 2)?.sub(&decimal(1, 0)?), Ok(decimal(-95, 2)?));
-    assert_eq!(rt;
-        decimal(1, 20)?.mul(&decimal(1, 19)?),
-        Err(NumFault::Overflow)
-    );
-    assert_eq!(rt; decimal(-12, 1)?.mul(&decimal(5, 2)?), Ok(decimal(-60, 3)?));
-    assert_eq!(rt; decimal(-75, 1)?.rem(&decimal(2, 0)?), Ok(decimal(-15, 1)?));
-    assert_eq!(rt;
-        decimal(LARGEST, 0)?.div(&decimal(0, 38)?),
-        Err(NumFault::DivideByZero)
-    );
-    assert_eq!(rt; decimal(-1999, 3)?.cut_to(3, 2), Ok(decimal(-199, 2)?));
-    assert_eq!(rt; decimal(5, 0)?.cut_to(3, 2), Ok(decimal(500, 2)?));
-    assert_eq!(rt; decimal(10, 0)?.cut_to(3, 2), Err(NumFault::Overflow));
-    assert_eq!(rt; decimal(10, 1)?.compare(&decimal(100, 2)?), Ordering::Equal);
-    assert_eq!(rt;
-        decimal(-LARGEST, 0)?.compare(&decimal(1, 38)?),
-        Ordering::Less
-    );
-    assert_eq!(rt; decimal(7, 3)?.neg(), decimal(-7, 3)?);
+fn operations_on_two_decimals(rt: HostRuntime) -> Result<(), Fail> {
+    let rows = [
+        (Operation::Add, (1, 1), (2, 1), Ok((3, 1))),
+        (
+            Operation::Add,
+            (LARGEST, 0),
+            (1, 0),
+            Err(NumFault::Overflow),
+        ),
+        (Operation::Sub, (5, 2), (1, 0), Ok((-95, 2))),
+        (Operation::Mul, (1, 20), (1, 19), Err(NumFault::Overflow)),
+        (Operation::Mul, (-12, 1), (5, 2), Ok((-60, 3))),
+        (Operation::Div, (10, 1), (3, 0), Ok((333_333, 6))),
+        (
+            Operation::Div,
+            (LARGEST, 0),
+            (0, 38),
+            Err(NumFault::DivideByZero),
+        ),
+        (Operation::Rem, (-75, 1), (2, 0), Ok((-15, 1))),
+    ];
+    for (operation, left, right, want) in rows {
+        let found = apply(operation, &decimal(left)?, &decimal(right)?).map(parts);
+        assert_eq!(rt; found, want, "{operation:?} of {left:?} and {right:?}");
+    }
+    Ok(())
+}
+
+#[test]
+fn one_decimal(rt: HostRuntime) -> Result<(), Fail> {
+    let rows = [
+        ((-1999, 3), Ok((-199, 2)), "-1.999"),
+        ((5, 0), Ok((500, 2)), "5"),
+        ((10, 0), Err(NumFault::Overflow), "10"),
+        ((-5, 2), Ok((-5, 2)), "-0.05"),
+        (
+            (-LARGEST, 38),
+            Ok((-99, 2)),
+            "-0.99999999999999999999999999999999999999",
+        ),
+    ];
+    for (of, cut, text) in rows {
+        let decimal = decimal(of)?;
+        assert_eq!(rt; decimal.cut_to(3, 2).map(parts), cut, "{text}");
+        assert_eq!(rt; decimal.print().as_str(), text);
+        assert_eq!(rt; decimal.compare(&decimal.neg().neg()), Ordering::Equal);
+    }
     Ok(())
 }
 
 #[test]
 fn numbers_from_text(rt: HostRuntime) {
     let rows = [
-        ("5e-1", number(5, 1)),
-        ("1e2", number(100, 0)),
+        ("5e-1", Some((false, 5, 1))),
+        ("1e2", Some((false, 100, 0))),
         (
             " 9223372036854775808 ",
-            number(9_223_372_036_854_775_808, 0),
+            Some((false, 9_223_372_036_854_775_808, 0)),
         ),
-        ("-9223372036854775808", Some(Num::Int(i64::MIN))),
-        ("+007", Some(Num::Int(7))),
-        ("-0", Some(Num::Int(0))),
-        ("-12.50", number(-1250, 2)),
-        ("0e99999999999999999999999", number(0, 0)),
-        ("0.0e5", number(0, 0)),
-        ("0.001E+1", number(1, 2)),
-        ("1e-38", number(1, 38)),
+        (
+            "-9223372036854775808",
+            Some((true, -9_223_372_036_854_775_808, 0)),
+        ),
+        ("+007", Some((true, 7, 0))),
+        ("-12.50", Some((false, -1250, 2))),
+        ("-0e99999999999999999999999", Some((false, 0, 0))),
+        ("1E-38", Some((false, 1, 38))),
         ("1e-39", None),
         ("1e38", None),
         (
-            "0.00000000000000000000000000000000000000001e5",
-            number(1, 36),
+            "99999999999999999999999999999999999999",
+            Some((false, LARGEST, 0)),
         ),
-        ("99999999999999999999999999999999999999", number(LARGEST, 0)),
         ("100000000000000000000000000000000000000", None),
         (".5", None),
         ("5.", None),
         ("1e", None),
         ("1 2", None),
         ("\t1", None),
-        ("", None),
     ];
     for (text, want) in rows {
-        assert_eq!(rt; Dec::read(text.chars()), want, "{text}");
+        assert_eq!(rt; Dec::read(text.chars()).map(number_parts), want, "{text}");
     }
-}
-
-#[test]
-fn decimals_as_text(rt: HostRuntime) -> Result<(), Fail> {
-    assert_eq!(rt; decimal(-5, 2)?.print().as_str(), "-0.05");
-    assert_eq!(rt; decimal(100, 0)?.print().as_str(), "100");
-    assert_eq!(rt; decimal(12_345, 2)?.print().as_str(), "123.45");
-    assert_eq!(rt;
-        decimal(-LARGEST, 38)?.print().as_str(),
-        "-0.99999999999999999999999999999999999999"
-    );
-    assert_eq!(rt;
-        decimal(LARGEST, 1)?.print().as_str(),
-        "9999999999999999999999999999999999999.9"
-    );
-    Ok(())
 }

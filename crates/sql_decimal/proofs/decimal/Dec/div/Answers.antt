@@ -7,11 +7,11 @@ use Rattle.sql_decimal.proofs.decimal.Dec.div.Goals as goal
 
 pub returns-in-Some : goal.returns-in-Some
 returns-in-Some c =
-    let dividend = passed c.coeff-2.result c.args.self.now.coefficient c.coeff-2.ensures.digits c.coeff-2.ensures.value in
+    let dividend = passed c.coeff.result c.args.self.now.coefficient c.coeff.ensures.digits c.coeff.ensures.value in
     let scaling = scaled_is _ _ _ (c.max-scale.result - c.scale-3.result + c.scale-4.result) dividend c.in-Some.ensures in
     let k : c.max-scale.result - c.scale-3.result + c.scale-4.result ≡ c.max-scale.result - c.args.self.now.scale + c.args.other.now.scale = omega arith in
-    quotient_in_range c.args.self.now c.args.other.now _ (to_z w128 (of_z w128 c.in-Some.numerator)) (to_z w128 (of_z w128 c.coeff-in-Some.result)) c.max-scale.result c.over.ensures
-    (λ zero. c.if-coeff-eq0.false (ap (of_z w128) (c.coeff.ensures.value ∙ zero)))
-    (passed c.coeff-in-Some.result _ c.coeff-in-Some.ensures.digits c.coeff-in-Some.ensures.value)
+    quotient_in_range c.args.self.now c.args.other.now _ (to_z w128 (of_z w128 c.in-Some.numerator)) (to_z w128 (of_z w128 c.coeff-divisor.result)) c.max-scale.result c.over.ensures
+    (λ zero. c.if-divisor-eq0.false (ap (of_z w128) (c.coeff-divisor.ensures.value ∙ zero)))
+    (passed c.coeff-divisor.result _ c.coeff-divisor.ensures.digits c.coeff-divisor.ensures.value)
     (omega arith)
     (scaling.1 ∙ ap (λ n. c.args.self.now.coefficient *ℤ pos (10 ^ n)) k) scaling.0
