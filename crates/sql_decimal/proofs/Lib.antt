@@ -1,3 +1,4 @@
+pub mod FractionLaws
 pub mod Grammar
 pub mod GrammarBack
 pub mod Lengths

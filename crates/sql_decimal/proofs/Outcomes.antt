@@ -1,5 +1,5 @@
 -- Which case of a definition of arithmetic applies.
-use Rattle.std.proofs.Common.{◌≡◌, ◌≢◌, ℕ, ◌+◌, ◌-◌, ◌*◌, ◌^◌, ◌<◌, ◌≤◌, max, ℤ, pos, negsuc, suc, zero, ◌*ℤ◌, int_div, int_rem, unsigned_abs, Bool, true, false, refl, ap, sym, ◌∙◌, subst, arith, Result, Ok, Err, IsTrue, ◌==◌, nat_lt, nat_le, ◌&&◌, if◌then◌else◌, Option}
+use Rattle.std.proofs.Common.{◌≡◌, ◌≢◌, ℕ, ◌+◌, ◌-◌, ◌*◌, ◌^◌, ◌<◌, ◌≤◌, max, ℤ, pos, negsuc, suc, zero, ◌*ℤ◌, ◌+ℤ◌, ◌-ℤ◌, int_div, int_rem, unsigned_abs, Bool, true, false, refl, ap, sym, ◌∙◌, subst, arith, Result, Ok, Err, IsTrue, ◌==◌, nat_lt, nat_le, ◌&&◌, if◌then◌else◌, Option}
 use Rattle.std.specs.Option.{SomeIff}
 use Rattle.std.proofs.lemmas.Bool.Decides.{nat_tests}
 use Rattle.std.proofs.lemmas.Int.{ints}
@@ -7,7 +7,7 @@ use Rattle.std.proofs.Math.Nat.{pow-le-pow_right}
 use Rattle.sql_decimal.specs.declared.decimal.NumFault.{NumFault}
 use Rattle.sql_decimal.specs.declared.decimal.NumFault.TheVariants.{Overflow, DivideByZero}
 use Rattle.sql_decimal.specs.Decimal.{Decimal, decimal_of, is_within}
-use Rattle.sql_decimal.specs.Arithmetic.{aligned, common_scale, are_aligned, decimal_or_overflow, quotient, remainder, cut_coefficient, cut}
+use Rattle.sql_decimal.specs.Arithmetic.{aligned, common_scale, are_aligned, decimal_or_overflow, sum, difference, product, quotient, remainder, cut_coefficient, cut}
 
 -- a cut number of over 38 digits has more than p
 pub cut_over : (d : Decimal) (p s : ℕ) → p ≤ 38 → ¬ (unsigned_abs (cut_coefficient d s) < 10 ^ 38) → Err Overflow ≡ cut d p s
@@ -52,3 +52,21 @@ unfolding remainder
 remainder_in_range a b r x y s answer ne fits e f g =
     let some = size-nonzero b.coefficient ne in
     answer ∙ rw (e, f, g) (rw (some, fits) refl)
+
+-- a sum of operands that fit at the larger scale
+pub sum_in_range : (a b : Decimal) (r : Result Decimal NumFault) (x y : ℤ) (s : ℕ) → r ≡ decimal_or_overflow (x +ℤ y) s
+    → IsTrue (are_aligned a b) → x ≡ aligned a (common_scale a b) → y ≡ aligned b (common_scale a b) → s ≡ common_scale a b → r ≡ sum a b
+unfolding sum
+sum_in_range a b r x y s answer fits e f g = answer ∙ rw (e, f, g) (rw fits refl)
+
+-- a difference of such operands
+pub difference_in_range : (a b : Decimal) (r : Result Decimal NumFault) (x y : ℤ) (s : ℕ) → r ≡ decimal_or_overflow (x -ℤ y) s
+    → IsTrue (are_aligned a b) → x ≡ aligned a (common_scale a b) → y ≡ aligned b (common_scale a b) → s ≡ common_scale a b → r ≡ difference a b
+unfolding difference
+difference_in_range a b r x y s answer fits e f g = answer ∙ rw (e, f, g) (rw fits refl)
+
+-- a product
+pub product_of_parts : (a b : Decimal) (r : Result Decimal NumFault) (x y : ℤ) (s : ℕ) → r ≡ decimal_or_overflow (x *ℤ y) s
+    → x ≡ a.coefficient → y ≡ b.coefficient → s ≡ a.scale + b.scale → r ≡ product a b
+unfolding product
+product_of_parts a b r x y s answer e f g = answer ∙ rw (e, f, g) refl

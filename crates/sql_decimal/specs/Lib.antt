@@ -1,5 +1,6 @@
 pub mod Arithmetic
 pub mod Decimal
+pub mod Fractions
 pub mod NumberText
 pub mod Printing
 pub mod Reading

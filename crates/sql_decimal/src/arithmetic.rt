@@ -1,7 +1,8 @@
 //! The arithmetic of decimals.
-ghost use Rattle.std.specs.Prelude.{◌≡◌, ◌≢◌, ◌^◌, ◌<◌, ◌≤◌, ℤ, pos, ◌+ℤ◌, ◌-ℤ◌, ◌*ℤ◌, int_div, int_rem, unsigned_abs, true, IsTrue, IfSome, if◌then◌else◌};
+ghost use Rattle.std.specs.Prelude.{◌≡◌, ◌≢◌, ◌^◌, ◌<◌, ◌≤◌, ℤ, pos, ◌+ℤ◌, ◌-ℤ◌, ◌*ℤ◌, int_div, int_rem, unsigned_abs, true, IsTrue, IfSome, IfOk, if◌then◌else◌};
 ghost use Rattle.std.specs.Option.{SomeIff};
 ghost use Rattle.sql_decimal.specs.Decimal.{Decimal, decimal_of, is_within};
+ghost use Rattle.sql_decimal.specs.Fractions.{IsSum, IsDifference, IsProduct, IsQuotient};
 ghost use Rattle.sql_decimal.specs.Arithmetic.{aligned, common_scale, are_aligned, decimal_or_overflow, cut_coefficient, sum, difference, product, quotient, remainder, cut};
 
 use crate::decimal::{Dec, NumFault};
@@ -145,7 +146,8 @@ impl Dec {
     /// Overflow where a number aligned to that scale, or the sum, has more than 38 digits.
     #[tactic(auto, unfolding(crate::specs::Arithmetic::sum))]
     pub fn add(&self, other: &Dec) -> Result<Dec, NumFault>
-        ensures { result ≡ sum self.now other.now }
+        ensures value { result ≡ sum self.now other.now }
+        ensures fraction { IfOk result (IsSum self.now other.now) }
     {
         match align(self, other) {
             Some(pair) => plus(pair.left, pair.right, pair.scale),
@@ -158,7 +160,8 @@ impl Dec {
     /// Overflow where a number aligned to that scale, or the difference, has more than 38 digits.
     #[tactic(auto, unfolding(crate::specs::Arithmetic::difference))]
     pub fn sub(&self, other: &Dec) -> Result<Dec, NumFault>
-        ensures { result ≡ difference self.now other.now }
+        ensures value { result ≡ difference self.now other.now }
+        ensures fraction { IfOk result (IsDifference self.now other.now) }
     {
         match align(self, other) {
             Some(pair) => minus(pair.left, pair.right, pair.scale),
@@ -171,7 +174,8 @@ impl Dec {
     /// Overflow where that scale is over 38, or the product has more than 38 digits.
     #[tactic(auto, unfolding(crate::specs::Arithmetic::product))]
     pub fn mul(&self, other: &Dec) -> Result<Dec, NumFault>
-        ensures { result ≡ product self.now other.now }
+        ensures value { result ≡ product self.now other.now }
+        ensures fraction { IfOk result (IsProduct self.now other.now) }
     {
         times(self.coeff(), other.coeff(), self.scale() + other.scale())
     }
@@ -182,7 +186,8 @@ impl Dec {
     /// division of whole numbers gives the quotient, has more than 38 digits.
     #[tactic(auto, unfolding(crate::specs::Arithmetic::quotient))]
     pub fn div(&self, other: &Dec) -> Result<Dec, NumFault>
-        ensures { result ≡ quotient self.now other.now }
+        ensures value { result ≡ quotient self.now other.now }
+        ensures fraction { IfOk result (IsQuotient self.now other.now) }
     {
         let divisor = other.coeff();
         if divisor == 0 {
