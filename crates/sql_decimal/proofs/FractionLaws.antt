@@ -1,13 +1,12 @@
 -- The results of arithmetic are the fractions that they stand for.
-use Rattle.std.proofs.Common.{◌≡◌, ◌≢◌, ℕ, suc, zero, ◌+◌, ◌-◌, ◌*◌, ◌/◌, ◌^◌, ◌<◌, ◌≤◌, max, ℤ, pos, negsuc, neg_ℤ, ◌+ℤ◌, ◌-ℤ◌, ◌*ℤ◌, int_div, unsigned_abs, Bool, true, false, ◌==◌, Result, Ok, Err, IfOk, if◌then◌else◌, refl, ap, sym, ◌∙◌, subst, arith}
-use Rattle.std.proofs.lemmas.Bool.Decides.{nat_tests}
+use Rattle.std.proofs.Common.{◌≡◌, ℕ, suc, zero, ◌+◌, ◌-◌, ◌*◌, ◌/◌, ◌^◌, ◌<◌, ◌≤◌, max, ℤ, pos, negsuc, neg_ℤ, ◌+ℤ◌, ◌-ℤ◌, ◌*ℤ◌, int_div, unsigned_abs, Bool, true, false, ◌==◌, Result, Ok, Err, IfOk, if◌then◌else◌, refl, ap, sym, ◌∙◌, arith}
 use Rattle.std.proofs.lemmas.Int.{ints}
 use Rattle.std.proofs.Math.Nat.{mul-lt-mul_of_pos_right}
 use Rattle.std.proofs.Math.IntN.{*ℤ_comm, zero-*ℤ, suc_ℤ-*ℤ}
 use Rattle.sql_decimal.specs.declared.decimal.NumFault.{NumFault}
 use Rattle.sql_decimal.specs.declared.decimal.NumFault.TheVariants.{Overflow, DivideByZero}
 use Rattle.sql_decimal.specs.Decimal.{Decimal, decimal_of, is_decimal, is_within}
-use Rattle.sql_decimal.specs.Arithmetic.{aligned, common_scale, are_aligned, decimal_or_overflow, sum, difference, product, quotient, remainder}
+use Rattle.sql_decimal.specs.Arithmetic.{aligned, common_scale, are_aligned, decimal_or_overflow, sum, difference, product, quotient}
 use Rattle.sql_decimal.specs.Fractions.{numerator, IsSum, IsDifference, IsProduct, IsQuotient}
 use Rattle.sql_decimal.proofs.PowersOfTen.{pow_split, ten_pow_pos}
 use Rattle.sql_decimal.proofs.Scaling.{scale_scale, scale_both, neg-mul}
@@ -63,22 +62,22 @@ unfolding sum
 sum-is a b =
     let s = common_scale a b in
     or_fault (IsSum a b) (are_aligned a b) _ Overflow (from_decimal (IsSum a b) (aligned a s +ℤ aligned b s) s (
-      add-scale (aligned a s) (aligned b s) (10 ^ (a.scale + b.scale))
-      ∙ ap (λ z. z +ℤ aligned b s *ℤ pos (10 ^ (a.scale + b.scale))) (aligned-scale a.coefficient a.scale b.scale s (omega arith))
-      ∙ ap (λ z. (a.coefficient *ℤ pos (10 ^ b.scale)) *ℤ pos (10 ^ s) +ℤ z) (
-        ap (λ n. aligned b s *ℤ pos (10 ^ n)) (omega arith) ∙ aligned-scale b.coefficient b.scale a.scale s (omega arith))
-      ∙ sym (add-scale (numerator a b.scale) (numerator b a.scale) (10 ^ s))))
+    add-scale (aligned a s) (aligned b s) (10 ^ (a.scale + b.scale))
+    ∙ ap (λ z. z +ℤ aligned b s *ℤ pos (10 ^ (a.scale + b.scale))) (aligned-scale a.coefficient a.scale b.scale s (omega arith))
+    ∙ ap (λ z. (a.coefficient *ℤ pos (10 ^ b.scale)) *ℤ pos (10 ^ s) +ℤ z) (
+    ap (λ n. aligned b s *ℤ pos (10 ^ n)) (omega arith) ∙ aligned-scale b.coefficient b.scale a.scale s (omega arith))
+    ∙ sym (add-scale (numerator a b.scale) (numerator b a.scale) (10 ^ s))))
 
 pub difference-is : (a b : Decimal) → IfOk (difference a b) (IsDifference a b)
 unfolding difference
 difference-is a b =
     let s = common_scale a b in
     or_fault (IsDifference a b) (are_aligned a b) _ Overflow (from_decimal (IsDifference a b) (aligned a s -ℤ aligned b s) s (
-      sub-scale (aligned a s) (aligned b s) (10 ^ (a.scale + b.scale))
-      ∙ ap (λ z. z -ℤ aligned b s *ℤ pos (10 ^ (a.scale + b.scale))) (aligned-scale a.coefficient a.scale b.scale s (omega arith))
-      ∙ ap (λ z. (a.coefficient *ℤ pos (10 ^ b.scale)) *ℤ pos (10 ^ s) -ℤ z) (
-        ap (λ n. aligned b s *ℤ pos (10 ^ n)) (omega arith) ∙ aligned-scale b.coefficient b.scale a.scale s (omega arith))
-      ∙ sym (sub-scale (numerator a b.scale) (numerator b a.scale) (10 ^ s))))
+    sub-scale (aligned a s) (aligned b s) (10 ^ (a.scale + b.scale))
+    ∙ ap (λ z. z -ℤ aligned b s *ℤ pos (10 ^ (a.scale + b.scale))) (aligned-scale a.coefficient a.scale b.scale s (omega arith))
+    ∙ ap (λ z. (a.coefficient *ℤ pos (10 ^ b.scale)) *ℤ pos (10 ^ s) -ℤ z) (
+    ap (λ n. aligned b s *ℤ pos (10 ^ n)) (omega arith) ∙ aligned-scale b.coefficient b.scale a.scale s (omega arith))
+    ∙ sym (sub-scale (numerator a b.scale) (numerator b a.scale) (10 ^ s))))
 
 pub product-is : (a b : Decimal) → IfOk (product a b) (IsProduct a b)
 unfolding product
@@ -105,8 +104,8 @@ quotient-is a b =
     let s = max (common_scale a b) 6 in
     let n = a.coefficient *ℤ pos (10 ^ (s - a.scale + b.scale)) in
     let whole : n *ℤ pos (10 ^ a.scale) ≡ numerator a (b.scale + s) =
-      scale_scale a.coefficient (10 ^ (s - a.scale + b.scale)) (10 ^ a.scale)
-      ∙ ap (λ k. a.coefficient *ℤ pos k) (sym (pow_split (s - a.scale + b.scale) a.scale (b.scale + s) (omega arith))) in
+    scale_scale a.coefficient (10 ^ (s - a.scale + b.scale)) (10 ^ a.scale)
+    ∙ ap (λ k. a.coefficient *ℤ pos k) (sym (pow_split (s - a.scale + b.scale) a.scale (b.scale + s) (omega arith))) in
     fault_or (IsQuotient a b) (unsigned_abs b.coefficient == 0) _ DivideByZero (or_fault (IsQuotient a b) (is_within 38 n) _ Overflow (
-      from_decimal (IsQuotient a b) (int_div n b.coefficient) s (
-        sym (scale_over n b.coefficient (10 ^ a.scale) (ten_pow_pos a.scale)) ∙ ap (λ z. int_div z (numerator b a.scale)) whole)))
+    from_decimal (IsQuotient a b) (int_div n b.coefficient) s (
+    sym (scale_over n b.coefficient (10 ^ a.scale) (ten_pow_pos a.scale)) ∙ ap (λ z. int_div z (numerator b a.scale)) whole)))

@@ -1,13 +1,13 @@
 -- The function of the characters gives the number of each text of the grammar.
-use Rattle.std.proofs.Common.{◌≡◌, ℕ, suc, zero, ◌+◌, ◌*◌, ◌<◌, ◌≤◌, Bool, true, false, ◌==◌, ◌||◌, ◌&&◌, IsTrue, if◌then◌else◌, List, [], ◌∷◌, ◌++◌, length, replicate, Option, Some, None, IfSome, refl, ap, sym, ◌∙◌, subst, arith, append_assoc, inl, inr, ◌⊎◌}
+use Rattle.std.proofs.Common.{◌≡◌, ℕ, suc, zero, ◌+◌, ◌*◌, ◌<◌, ◌≤◌, Bool, true, false, ◌==◌, ◌&&◌, if◌then◌else◌, List, [], ◌∷◌, ◌++◌, length, replicate, Option, Some, None, IfSome, refl, ap, sym, ◌∙◌, arith, inl, inr, ◌⊎◌}
 use Rattle.std.specs.Char.{is_ascii_digit, digit_value}
 use Rattle.std.specs.Str.{all_ascii_digits}
 use Rattle.std.specs.Str.Parse.{digits_value, digits_value_after}
 use Rattle.std.proofs.lemmas.Bool.{ne_eqb}
 use Rattle.std.proofs.lemmas.Bool.Decides.{nat_tests}
 use Rattle.sql_decimal.specs.declared.number.Num.{Num}
-use Rattle.sql_decimal.specs.NumberText.{space, plus_sign, minus_sign, decimal_point, capital_e, small_e, Sign, plus, minus, print_sign, Exponent, print_exponent, NumberText, print_fraction, print_number, IsDigits, IsNumberText, is_minus, signed, decimal_number, whole_number, scaled_number, all_digits, places, number_from, number_of_text}
-use Rattle.sql_decimal.specs.Reading.{is_mark, with_digit, after_number, in_exponent, exponent_digits, after_mark, in_fraction, fraction_digits, in_whole, whole_digits, number_of}
+use Rattle.sql_decimal.specs.NumberText.{space, plus_sign, minus_sign, capital_e, small_e, Sign, plus, minus, print_sign, Exponent, print_exponent, NumberText, print_fraction, print_number, IsDigits, IsNumberText, is_minus, signed, decimal_number, scaled_number, all_digits, number_from, number_of_text}
+use Rattle.sql_decimal.specs.Reading.{with_digit, after_number, in_exponent, exponent_digits, after_mark, in_fraction, fraction_digits, in_whole, whole_digits, number_of}
 
 -- both tests pass
 pub both : (a b : Bool) → (a && b) ≡ true → (a ≡ true) × (b ≡ true)

@@ -1,11 +1,11 @@
 -- Characters to which the function gives a number are a text of the grammar with that number.
-use Rattle.std.proofs.Common.{◌≡◌, ℕ, suc, zero, ◌+◌, ◌*◌, ◌<◌, ◌≤◌, Bool, true, false, ◌==◌, ◌||◌, ◌&&◌, IsTrue, if◌then◌else◌, List, [], ◌∷◌, ◌++◌, length, replicate, Option, Some, None, IfSome, MatchOption, refl, ap, sym, ◌∙◌, subst, arith, inl, inr, ◌⊎◌}
+use Rattle.std.proofs.Common.{◌≡◌, ℕ, suc, ◌+◌, Bool, true, false, ◌==◌, ◌||◌, if◌then◌else◌, List, [], ◌∷◌, ◌++◌, length, replicate, Option, Some, None, IfSome, MatchOption, refl, ap, sym, ◌∙◌, arith, inl, inr, ◌⊎◌}
 use Rattle.std.specs.Char.{is_ascii_digit, digit_value}
 use Rattle.std.specs.Str.{all_ascii_digits}
 use Rattle.std.specs.Str.Parse.{digits_value, digits_value_after}
 use Rattle.std.proofs.lemmas.Map.Views.{exact_unsigned_eq}
 use Rattle.sql_decimal.specs.declared.number.Num.{Num}
-use Rattle.sql_decimal.specs.NumberText.{space, plus_sign, minus_sign, decimal_point, capital_e, small_e, Sign, plus, minus, print_sign, Exponent, print_exponent, NumberText, print_fraction, print_number, IsDigits, IsNumberText, is_minus, signed, decimal_number, whole_number, scaled_number, number_from, number_of_text, Spells}
+use Rattle.sql_decimal.specs.NumberText.{space, plus_sign, minus_sign, decimal_point, capital_e, small_e, Sign, plus, minus, print_sign, Exponent, print_exponent, print_fraction, IsDigits, is_minus, signed, decimal_number, whole_number, scaled_number, number_from, number_of_text, Spells}
 use Rattle.sql_decimal.specs.Reading.{is_mark, with_digit, after_number, in_exponent, exponent_digits, after_mark, in_fraction, fraction_digits, in_whole, whole_digits, number_of}
 use Rattle.sql_decimal.proofs.Grammar.{digits_value-first, fixed_from, value_on, value_on-all, number_of-print_number}
 

@@ -1,13 +1,11 @@
 -- Digits of over 38 digits spell no number, whatever follows, and exponents that are far off are alike.
-use Rattle.std.proofs.Common.{◌≡◌, ◌≢◌, ℕ, suc, zero, ◌+◌, ◌-◌, ◌*◌, ◌^◌, ◌<◌, ◌≤◌, min, ℤ, pos, negsuc, neg_ℤ, ◌-ℤ◌, ◌*ℤ◌, unsigned_abs, Bool, true, false, ◌==◌, ◌||◌, ◌&&◌, nat_lt, nat_le, IsTrue, if◌then◌else◌, List, [], ◌∷◌, Option, Some, None, refl, ap, sym, ◌∙◌, subst, arith, inl, inr, ◌⊎◌}
+use Rattle.std.proofs.Common.{◌≡◌, ℕ, suc, zero, ◌+◌, ◌-◌, ◌*◌, ◌^◌, ◌<◌, ◌≤◌, min, ℤ, pos, negsuc, neg_ℤ, ◌-ℤ◌, ◌*ℤ◌, unsigned_abs, Bool, true, false, ◌==◌, if◌then◌else◌, List, [], ◌∷◌, Some, None, refl, ap, sym, ◌∙◌, arith, inl, inr}
 use Rattle.std.specs.Char.{is_ascii_digit, digit_value}
 use Rattle.std.proofs.lemmas.Bool.Decides.{nat_tests}
 use Rattle.std.proofs.lemmas.Bool.{cases_lt}
 use Rattle.std.proofs.lemmas.Int.{ints, unsigned_abs-mul}
-use Rattle.std.proofs.Math.Nat.{one-le-pow, mul-le-mul_right}
-use Rattle.sql_decimal.specs.declared.number.Num.{Num}
-use Rattle.sql_decimal.specs.declared.number.Num.TheVariants.{Int, Dec}
-use Rattle.sql_decimal.specs.Decimal.{is_decimal, is_within, decimal_of}
+use Rattle.sql_decimal.specs.declared.number.Num.TheVariants.{Dec}
+use Rattle.sql_decimal.specs.Decimal.{is_decimal, decimal_of}
 use Rattle.sql_decimal.specs.NumberText.{space, plus_sign, minus_sign, decimal_point, signed, decimal_number, is_64_bit, whole_number, shifted_number, scaled_number}
 use Rattle.sql_decimal.specs.Reading.{is_mark, with_digit, after_number, in_exponent, exponent_digits, after_mark, in_fraction, fraction_digits, in_whole}
 use Rattle.sql_decimal.proofs.PowersOfTen.{ten_pow_pos, scaled_far_over}

@@ -1,12 +1,10 @@
 -- Which case of a definition of arithmetic applies.
-use Rattle.std.proofs.Common.{◌≡◌, ◌≢◌, ℕ, ◌+◌, ◌-◌, ◌*◌, ◌^◌, ◌<◌, ◌≤◌, max, ℤ, pos, negsuc, suc, zero, ◌*ℤ◌, ◌+ℤ◌, ◌-ℤ◌, int_div, int_rem, unsigned_abs, Bool, true, false, refl, ap, sym, ◌∙◌, subst, arith, Result, Ok, Err, IsTrue, ◌==◌, nat_lt, nat_le, ◌&&◌, if◌then◌else◌, Option}
-use Rattle.std.specs.Option.{SomeIff}
+use Rattle.std.proofs.Common.{◌≡◌, ◌≢◌, ℕ, ◌+◌, ◌-◌, ◌^◌, ◌<◌, ◌≤◌, max, ℤ, pos, negsuc, suc, zero, ◌*ℤ◌, ◌+ℤ◌, ◌-ℤ◌, int_div, int_rem, unsigned_abs, true, false, refl, ap, ◌∙◌, subst, arith, Result, Err, IsTrue, ◌==◌}
 use Rattle.std.proofs.lemmas.Bool.Decides.{nat_tests}
-use Rattle.std.proofs.lemmas.Int.{ints}
 use Rattle.std.proofs.Math.Nat.{pow-le-pow_right}
 use Rattle.sql_decimal.specs.declared.decimal.NumFault.{NumFault}
-use Rattle.sql_decimal.specs.declared.decimal.NumFault.TheVariants.{Overflow, DivideByZero}
-use Rattle.sql_decimal.specs.Decimal.{Decimal, decimal_of, is_within}
+use Rattle.sql_decimal.specs.declared.decimal.NumFault.TheVariants.{Overflow}
+use Rattle.sql_decimal.specs.Decimal.{Decimal, is_within}
 use Rattle.sql_decimal.specs.Arithmetic.{aligned, common_scale, are_aligned, decimal_or_overflow, sum, difference, product, quotient, remainder, cut_coefficient, cut}
 
 -- a cut number of over 38 digits has more than p

@@ -1,5 +1,5 @@
 -- Whole numbers times powers of ten: products of products, quotients, order.
-use Rattle.std.proofs.Common.{◌≡◌, ℕ, suc, zero, ◌+◌, ◌-◌, ◌*◌, ◌/◌, ◌^◌, ◌<◌, ◌≤◌, ℤ, pos, negsuc, ◌*ℤ◌, neg_ℤ, ◌<ℤ◌, int_div, int_rem, unsigned_abs, Bool, true, refl, ap, sym, ◌∙◌, subst, arith, ◌≢◌, Option}
+use Rattle.std.proofs.Common.{◌≡◌, ℕ, suc, zero, ◌-◌, ◌*◌, ◌/◌, ◌^◌, ◌<◌, ◌≤◌, ℤ, pos, negsuc, ◌*ℤ◌, neg_ℤ, ◌<ℤ◌, int_div, unsigned_abs, refl, ap, sym, ◌∙◌, subst, arith, ◌≢◌, Option}
 use Rattle.std.specs.Option.{SomeIff}
 use Rattle.std.specs.Ordering.{int_cmp, ordering_reverse, MatchOrdering}
 use Rattle.std.specs.declared.cmp.Ordering.{Ordering}

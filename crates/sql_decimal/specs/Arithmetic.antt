@@ -1,5 +1,5 @@
 -- Arithmetic on decimals, over whole numbers without bound, and its two faults.
-use Rattle.std.specs.Prelude.{ℕ, ◌+◌, ◌-◌, ◌^◌, max, ℤ, pos, ◌+ℤ◌, ◌-ℤ◌, ◌*ℤ◌, int_div, int_rem, nat_le, Bool, ◌&&◌, ◌==◌, if◌then◌else◌, Result, Ok, Err, unsigned_abs}
+use Rattle.std.specs.Prelude.{ℕ, ◌+◌, ◌-◌, ◌^◌, max, ℤ, pos, ◌+ℤ◌, ◌-ℤ◌, ◌*ℤ◌, int_div, int_rem, Bool, ◌&&◌, ◌==◌, if◌then◌else◌, Result, Ok, Err, unsigned_abs}
 use Rattle.sql_decimal.specs.declared.decimal.NumFault.{NumFault}
 use Rattle.sql_decimal.specs.declared.decimal.NumFault.TheVariants.{Overflow, DivideByZero}
 use Rattle.sql_decimal.specs.Decimal.{Decimal, decimal_of, is_within, is_decimal}

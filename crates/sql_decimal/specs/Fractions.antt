@@ -1,5 +1,5 @@
 -- What the results of arithmetic are as fractions, over common denominators.
-use Rattle.std.specs.Prelude.{◌≡◌, ℕ, ◌+◌, ◌^◌, ◌<◌, ℤ, pos, ◌+ℤ◌, ◌-ℤ◌, ◌*ℤ◌, int_div, unsigned_abs}
+use Rattle.std.specs.Prelude.{◌≡◌, ℕ, ◌+◌, ◌^◌, ℤ, pos, ◌+ℤ◌, ◌-ℤ◌, ◌*ℤ◌, int_div}
 use Rattle.sql_decimal.specs.Decimal.{Decimal}
 
 -- the numerator of d over the denominator 10 ^ (d.scale + k)

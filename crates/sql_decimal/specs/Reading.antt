@@ -1,5 +1,5 @@
 -- The number that a list of characters spells, as a function that goes through the list once.
-use Rattle.std.specs.Prelude.{ℕ, ◌+◌, ◌*◌, Bool, true, false, ◌||◌, ◌==◌, List, [], ◌∷◌, Option, Some, None, if◌then◌else◌}
+use Rattle.std.specs.Prelude.{ℕ, ◌+◌, ◌*◌, Bool, true, false, ◌||◌, ◌==◌, List, [], ◌∷◌, Option, None, if◌then◌else◌}
 use Rattle.std.specs.Char.{is_ascii_digit, digit_value}
 use Rattle.sql_decimal.specs.declared.number.Num.{Num}
 use Rattle.sql_decimal.specs.NumberText.{space, plus_sign, minus_sign, decimal_point, capital_e, small_e, signed, decimal_number, whole_number, scaled_number}

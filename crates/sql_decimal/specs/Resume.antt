@@ -1,5 +1,5 @@
 -- What a reader that stopped at some place makes of the characters that are left.
-use Rattle.std.specs.Prelude.{◌≡◌, ℕ, ◌∷◌, Bool, List, [], Option, Some, None}
+use Rattle.std.specs.Prelude.{◌≡◌, ℕ, ◌∷◌, Bool, List, Option, None}
 use Rattle.std.specs.Bool.{MatchBool}
 use Rattle.sql_decimal.specs.declared.number.Num.{Num}
 use Rattle.sql_decimal.specs.declared.reader.Place.{Place}

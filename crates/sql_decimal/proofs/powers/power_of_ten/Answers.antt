@@ -1,4 +1,4 @@
-use Rattle.std.proofs.Common.{arith, refl, sym, subst, ℕ, ◌<◌, ◌∙◌}
+use Rattle.std.proofs.Common.{arith, refl, sym, subst, ℕ, ◌<◌}
 use Rattle.sql_decimal.specs.declared.powers.TheConstants.{POWERS}
 use Rattle.sql_decimal.proofs.PowersOfTen.{power_at, ten_pow_pos}
 use Rattle.sql_decimal.proofs.powers.power_of_ten.Goals as goal

@@ -1,4 +1,4 @@
-use Rattle.std.proofs.Common.{arith, refl}
+use Rattle.std.proofs.Common.{arith}
 use Rattle.std.proofs.lemmas.Int.{ints, to_z-of_z}
 use Rattle.sql_decimal.proofs.PowersOfTen.{scaled_within, scaled_over, scaled_far_over, fits_small_power, fits_product, product_is}
 use Rattle.sql_decimal.proofs.powers.scaled.Goals as goal

@@ -1,4 +1,4 @@
-use Rattle.std.proofs.Common.{◌≡◌, ◌<◌, ◌/◌, ◌%◌, ◌^◌, refl, ap, arith, rules}
+use Rattle.std.proofs.Common.{refl}
 use Rattle.sql_decimal.proofs.Lengths.{length-whole, length-fraction}
 use Rattle.sql_decimal.proofs.print.parts.Goals as goal
 

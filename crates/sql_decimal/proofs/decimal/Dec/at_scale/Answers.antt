@@ -1,4 +1,4 @@
-use Rattle.std.proofs.Common.{arith, ◌∙◌, ◌-◌, ap, sym, subst, ℕ, ℤ, ◌<◌, ◌^◌, pos, unsigned_abs, int_div, refl, ◌*ℤ◌, to_z, of_z}
+use Rattle.std.proofs.Common.{arith, ◌∙◌, ◌-◌, sym, subst, ℤ, ◌<◌, ◌^◌, pos, unsigned_abs, ◌*ℤ◌, to_z, of_z}
 use Rattle.std.specs.Int.{w128}
 use Rattle.std.proofs.lemmas.Int.{ints}
 use Rattle.sql_decimal.specs.Arithmetic.{cut_coefficient}

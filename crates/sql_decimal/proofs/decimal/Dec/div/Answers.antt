@@ -1,6 +1,5 @@
-use Rattle.std.proofs.Common.{arith, ◌≡◌, ◌∙◌, to_z, of_z, ap, ◌^◌, ◌<◌, ◌+◌, ◌-◌, ℤ, pos, ◌*ℤ◌, unsigned_abs, subst, sym, Result, IfOk}
+use Rattle.std.proofs.Common.{arith, ◌≡◌, ◌∙◌, to_z, of_z, ap, ◌^◌, ◌+◌, ◌-◌, pos, ◌*ℤ◌, subst, sym, Result, IfOk}
 use Rattle.std.specs.Int.{w128}
-use Rattle.std.proofs.lemmas.Int.{ints}
 use Rattle.sql_decimal.proofs.PowersOfTen.{passed, scaled_is}
 use Rattle.sql_decimal.specs.declared.decimal.NumFault.{NumFault}
 use Rattle.sql_decimal.specs.Decimal.{Decimal}

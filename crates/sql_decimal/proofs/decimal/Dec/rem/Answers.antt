@@ -1,7 +1,7 @@
-use Rattle.std.proofs.Common.{arith, ◌∙◌, ap, sym, ◌^◌, ◌<◌, ℤ, pos, unsigned_abs, subst, ◌-◌, to_z, of_z}
+use Rattle.std.proofs.Common.{◌∙◌, ap, sym, ◌-◌, to_z, of_z}
 use Rattle.std.specs.Int.{w128}
 use Rattle.sql_decimal.specs.declared.arithmetic.Aligned.{Aligned}
-use Rattle.sql_decimal.specs.Arithmetic.{common_scale, aligned}
+use Rattle.sql_decimal.specs.Arithmetic.{common_scale}
 use Rattle.sql_decimal.proofs.PowersOfTen.{passed, ten_pow_pos}
 use Rattle.sql_decimal.proofs.Scaling.{scale-nonzero}
 use Rattle.sql_decimal.proofs.Outcomes.{remainder_in_range}

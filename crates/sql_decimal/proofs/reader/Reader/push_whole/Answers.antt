@@ -1,4 +1,4 @@
-use Rattle.std.proofs.Common.{arith, ap, sym, ◌∙◌}
+use Rattle.std.proofs.Common.{arith, ap}
 use Rattle.sql_decimal.specs.Resume.{resume}
 use Rattle.sql_decimal.specs.Reading.{with_digit, in_whole}
 use Rattle.sql_decimal.proofs.OutOfRange.{in_whole-over}
