@@ -1,14 +1,9 @@
 -- The text of a decimal.
 use Rattle.std.specs.Prelude.{ℕ, ◌-◌, ◌/◌, ◌%◌, ◌^◌, ◌==◌, ℤ, pos, negsuc, unsigned_abs, List, [], ◌∷◌, ◌++◌, length, replicate, if◌then◌else◌, decimal}
 use Rattle.sql_decimal.specs.Decimal.{Decimal}
+use Rattle.sql_decimal.specs.NumberText.{minus_sign, decimal_point}
 
--- the characters
-abbrev pub minus_sign : ℕ
-minus_sign = 45
-
-abbrev pub decimal_point : ℕ
-decimal_point = 46
-
+-- the character 0
 abbrev pub digit_zero : ℕ
 digit_zero = 48
 

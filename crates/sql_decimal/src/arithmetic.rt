@@ -57,6 +57,7 @@ fn within(coeff: i128, digits: u8, scale: u8) -> Result<Dec, NumFault>
     }
 }
 
+/// `left` + `right`, at a scale.
 fn plus(left: i128, right: i128, scale: u8) -> Result<Dec, NumFault>
     ensures { result ≡ decimal_or_overflow (left +ℤ right) scale }
 {
@@ -66,6 +67,7 @@ fn plus(left: i128, right: i128, scale: u8) -> Result<Dec, NumFault>
     }
 }
 
+/// `left` - `right`, at a scale.
 fn minus(left: i128, right: i128, scale: u8) -> Result<Dec, NumFault>
     ensures { result ≡ decimal_or_overflow (left -ℤ right) scale }
 {
@@ -82,6 +84,7 @@ fn small_product(left: i64, right: i64) -> i128
     i128::from(left) * i128::from(right)
 }
 
+/// `left` times `right`, at a scale.
 fn times(left: i128, right: i128, scale: u8) -> Result<Dec, NumFault>
     ensures { result ≡ decimal_or_overflow (left *ℤ right) scale }
 {

@@ -31,8 +31,19 @@ fn parts(magnitude: u128, scale: u8) -> (u128, u128)
     ensures whole_length { length (decimal result.0) + scale ≤ 39 }
     ensures fraction_length { 0 < scale → length (decimal result.1) ≤ scale }
 {
-    let power = power_of_ten(scale);
-    (magnitude / power, magnitude % power)
+    div_rem(magnitude, power_of_ten(scale))
+}
+
+/// The quotient and the remainder.
+fn div_rem(left: u128, right: u128) -> (u128, u128)
+    requires { 0 < right }
+    ensures quotient { result.0 ≡ left / right }
+    ensures remainder { result.1 ≡ left % right }
+{
+    match (u64::try_from(left), u64::try_from(right)) {
+        (Ok(left), Ok(right)) => (u128::from(left / right), u128::from(left % right)),
+        _ => (left / right, left % right),
+    }
 }
 
 /// Appends the digits of `number`.
@@ -41,10 +52,7 @@ fn push_number(text: &mut DecimalText, number: u128)
     ensures { text.new.bytes ≡ text.old.bytes ++ decimal number }
 {
     let mut buffer = itoa::Buffer::new();
-    match u64::try_from(number) {
-        Ok(small) => text.push_str(buffer.format(small)),
-        Err(_) => text.push_str(buffer.format(number)),
-    }
+    text.push_str(buffer.format(number));
 }
 
 /// Appends the digits of `number`, with zeros in front where there are fewer than `width`.

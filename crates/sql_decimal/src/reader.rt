@@ -11,8 +11,8 @@ use crate::decimal::Dec;
 use crate::number::Num;
 use crate::powers::scaled;
 
-/// The least number of 38 digits: a digit more makes 39.
-const MOST_TENTHS: u128 = 10_000_000_000_000_000_000_000_000_000_000_000_000;
+/// 10^37, the least number of 38 digits: a digit more makes 39.
+const LEAST_OF_38_DIGITS: u128 = 10_000_000_000_000_000_000_000_000_000_000_000_000;
 
 /// What every exponent from here on is kept as: with fewer than 2^63 places, each of them leaves the
 /// range of decimals.
@@ -55,7 +55,7 @@ pub(crate) struct Reader {
     /// How many of them stand after the point.
     places: u64,
     exponent_negative: bool,
-    /// The exponent's digits, or `FAR_EXPONENT` where they are more than that.
+    /// The value of the exponent's digits, or `FAR_EXPONENT` where it is more than that.
     exponent: u64,
 }
 
@@ -75,7 +75,7 @@ fn push_digit(mantissa: u128, digit: u8) -> Option<u128>
     requires { digit < 10 }
     ensures { SomeIff result (mantissa * 10 + digit < 10 ^ 38) (mantissa * 10 + digit) }
 {
-    if mantissa < MOST_TENTHS {
+    if mantissa < LEAST_OF_38_DIGITS {
         Some(mantissa * 10 + u128::from(digit))
     } else {
         None
