@@ -1,0 +1,2 @@
+-- The items that the reader takes one at a time: a number, a field header, a list header, a map header
+-- and a byte list.

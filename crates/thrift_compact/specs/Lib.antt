@@ -1,0 +1,3 @@
+pub mod Codes
+pub mod Varints
+pub mod Items

@@ -1,0 +1,11 @@
+//! Reads the Thrift compact protocol: a call that answers Ok has taken exactly the bytes of the
+//! value that it gives, and a fault comes exactly where no such value stands.
+#![tactic(auto)]
+
+mod faults;
+mod kinds;
+mod number;
+
+pub use crate::faults::{ThriftFault, ThriftFaultCode};
+pub use crate::kinds::Kind;
+pub use crate::number::varint;
