@@ -1,3 +1,4 @@
 pub mod Codes
 pub mod Varints
 pub mod Items
+pub mod Opens

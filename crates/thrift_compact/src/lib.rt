@@ -5,7 +5,9 @@
 mod faults;
 mod kinds;
 mod number;
+mod stack;
 
 pub use crate::faults::{ThriftFault, ThriftFaultCode};
 pub use crate::kinds::Kind;
 pub use crate::number::varint;
+pub use crate::stack::Open;

@@ -13,5 +13,5 @@ loop-index-preserved c =
     record {
       within = omega arith;
       groups = e;
-      bound = omega (arith, e, ten_groups (drop before bytes) short)
+      bound = omega (arith, e, ten_groups (drop before bytes) short);
     }
