@@ -3,6 +3,7 @@
 #![tactic(auto)]
 
 mod faults;
+mod items;
 mod kinds;
 mod number;
 mod stack;

@@ -1,5 +1,5 @@
 //! Varints.
-ghost use Rattle.std.specs.Prelude.{◌≡◌, ◌^◌, ◌-◌, ◌+◌, ◌≤◌, length};
+ghost use Rattle.std.specs.Prelude.{◌≡◌, ◌^◌, ◌-◌, ◌+◌, ◌≤◌, length, IfOk};
 ghost use Rattle.std.specs.List.{position};
 ghost use Rattle.thrift_compact.specs.Varints.{varint_at, varint_number, low_groups, is_last};
 
@@ -15,7 +15,9 @@ pub fn varint(bytes: &[u8]) -> Result<(u64, usize), ThriftFault>
 
 #[tactic(auto, unfolding(crate::specs::Varints::varint_at))]
 pub(crate) fn varint_within(bytes: &[u8], limit: u64) -> Result<(u64, usize), ThriftFault>
-    ensures { result ≡ varint_at limit bytes.now }
+    ensures exact { result ≡ varint_at limit bytes.now }
+    ensures within { IfOk result (λ x. x.0 ≤ limit) }
+    ensures bound { IfOk result (λ x. x.1 ≤ length bytes.now) }
 {
     let Some(last) = last_place(bytes) else {
         return Err(fault_at(ThriftFaultCode::Truncated, 0));
