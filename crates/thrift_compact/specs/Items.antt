@@ -49,6 +49,11 @@ abbrev pub field_of : ℤ → ℕ → Option Kind → Item (Option (ℤ × Kind)
 field_of number taken None = fault BadKind 0
 field_of number taken (Some k) = Ok (Some (number, k), taken)
 
+-- the number of a field that is so far above the last one
+abbrev pub number_after : ℤ → ℕ → Result ℤ ThriftFault
+number_after last delta =
+    if int_lt (pos 32767) (last +ℤ pos delta) then fault BadVarint 0 else Ok (last +ℤ pos delta)
+
 -- a field header behind the field with number last: 0 ends the struct; else the low four bits are the
 -- kind, and the high four bits are how far the number is above the last one, or 0 where the number
 -- follows as a zigzag varint of 16 bits
@@ -58,8 +63,7 @@ header_at last (b ∷ bytes) =
     if b == 0 then Ok (None, 1)
     else if b / 16 == 0 then
     then_read (signed_at (2 ^ 16 - 1) bytes) (λ n. field_of n.0 (n.1 + 1) (kind_of (b % 16)))
-    else if int_lt (pos 32767) (last +ℤ pos (b / 16)) then fault BadVarint 0
-    else field_of (last +ℤ pos (b / 16)) 1 (kind_of (b % 16))
+    else then_read (number_after last (b / 16)) (λ n. field_of n 1 (kind_of (b % 16)))
 
 -- a list of this size, if its kind is listed
 abbrev pub list_of : ℕ → ℕ → Option Kind → Item (Kind × ℕ)
@@ -94,3 +98,37 @@ map_header_at bytes =
 unfoldable pub byte_list_at : List ℕ → Item (List ℕ)
 byte_list_at bytes =
     then_read (varint_at largest_size bytes) (λ n. if nat_lt (length (drop n.1 bytes)) n.0 then fault Truncated n.1 else Ok (take n.0 (drop n.1 bytes), n.1 + n.0))
+
+-- what opens, if fewer than 32 are open
+abbrev pub opening : ℕ → Option Open → ℕ → Item (Option Open)
+opening already what taken = if nat_le 32 already then fault TooDeep 0 else Ok (what, taken)
+
+-- a list of this many members, or of as many keys and values
+abbrev pub members : Kind → Kind → ℕ → Option Open
+members k next left = if left == 0 then None else Some (Members k next left)
+
+-- what a map of this header opens
+abbrev pub map_members : Option (Kind × Kind × ℕ) → Option Open
+map_members None = None
+map_members (Some h) = members h.0 h.1 (2 * h.2)
+
+-- nothing opens
+abbrev pub whole : {X : Type 0} → X × ℕ → Item (Option Open)
+whole x = Ok (None, x.1)
+
+-- a truth value: the header of a field has it, and a member is one byte
+abbrev pub truth_at : Bool → List ℕ → Item (Option Open)
+truth_at member bytes = if member then then_read (byte_at bytes) whole else Ok (None, 0)
+
+-- a value of a kind, where so many constructs are open already and it may be a member: what it opens and
+-- the bytes up to there, or nothing and all of its bytes
+unfoldable pub value_at : ℕ → Bool → Kind → List ℕ → Item (Option Open)
+value_at already member kind.True bytes = truth_at member bytes
+value_at already member kind.False bytes = truth_at member bytes
+value_at already member kind.Double bytes = if nat_lt (length bytes) 8 then fault Truncated 0 else Ok (None, 8)
+value_at already member kind.Binary bytes = then_read (byte_list_at bytes) whole
+value_at already member kind.List bytes = then_read (list_header_at bytes) (λ h. opening already (members h.0.0 h.0.0 h.0.1) h.1)
+value_at already member kind.Set bytes = then_read (list_header_at bytes) (λ h. opening already (members h.0.0 h.0.0 h.0.1) h.1)
+value_at already member kind.Map bytes = then_read (map_header_at bytes) (λ h. opening already (map_members h.0) h.1)
+value_at already member kind.Struct bytes = opening already (Some (Fields (pos 0))) 0
+value_at already member k bytes = then_read (number_at k bytes) whole
