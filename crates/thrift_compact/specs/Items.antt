@@ -120,12 +120,16 @@ whole x = Ok (None, x.1)
 abbrev pub truth_at : Bool → List ℕ → Item (Option Open)
 truth_at member bytes = if member then then_read (byte_at bytes) whole else Ok (None, 0)
 
+-- a double: eight bytes
+abbrev pub double_at : List ℕ → Item (Option Open)
+double_at bytes = if nat_lt (length bytes) 8 then fault Truncated 0 else Ok (None, 8)
+
 -- a value of a kind, where so many constructs are open already and it may be a member: what it opens and
 -- the bytes up to there, or nothing and all of its bytes
 unfoldable pub value_at : ℕ → Bool → Kind → List ℕ → Item (Option Open)
 value_at already member kind.True bytes = truth_at member bytes
 value_at already member kind.False bytes = truth_at member bytes
-value_at already member kind.Double bytes = if nat_lt (length bytes) 8 then fault Truncated 0 else Ok (None, 8)
+value_at already member kind.Double bytes = double_at bytes
 value_at already member kind.Binary bytes = then_read (byte_list_at bytes) whole
 value_at already member kind.List bytes = then_read (list_header_at bytes) (λ h. opening already (members h.0.0 h.0.0 h.0.1) h.1)
 value_at already member kind.Set bytes = then_read (list_header_at bytes) (λ h. opening already (members h.0.0 h.0.0 h.0.1) h.1)

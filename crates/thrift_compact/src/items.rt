@@ -1,5 +1,5 @@
 //! The items that are read one at a time: numbers, headers and byte lists.
-ghost use Rattle.std.specs.Prelude.{◌≡◌, ◌≤◌, ◌<◌, ◌^◌, ◌-◌, length, IfOk, IfErr, Ok, Err};
+ghost use Rattle.std.specs.Prelude.{◌≡◌, ◌≤◌, ◌<◌, ◌^◌, ◌-◌, length, IfOk, IfErr, IfSome, Ok, Err};
 ghost use Rattle.thrift_compact.specs.Varints.{zigzag};
 ghost use Rattle.thrift_compact.specs.Items.{byte_at, signed_at, number_at, header_at, list_header_at, map_header_at, byte_list_at, number_after};
 
@@ -10,7 +10,7 @@ use crate::number::varint_within;
 /// The largest length of a byte list, and size of a list or map.
 const LARGEST_SIZE: u64 = 0x7fff_ffff;
 
-fn byte_of(bytes: &[u8]) -> Result<(u8, usize), ThriftFault>
+pub(crate) fn byte_of(bytes: &[u8]) -> Result<(u8, usize), ThriftFault>
     ensures exact { result ≡ byte_at bytes.now }
     ensures bound { IfOk result (λ x. x.1 ≤ length bytes.now) }
 {
@@ -75,6 +75,7 @@ pub(crate) fn list_header_of(bytes: &[u8]) -> Result<((Kind, u32), usize), Thrif
 #[tactic(auto, unfolding(crate::specs::Items::map_header_at))]
 pub(crate) fn map_header_of(bytes: &[u8]) -> Result<(Option<(Kind, Kind, u32)>, usize), ThriftFault>
     ensures exact { result ≡ map_header_at bytes.now }
+    ensures size { IfOk result (λ x. IfSome x.0 (λ h. h.2 < 2 ^ 31)) }
     ensures bound { IfOk result (λ x. x.1 ≤ length bytes.now) }
 {
     let (size, taken) = varint_within(bytes, LARGEST_SIZE)?;

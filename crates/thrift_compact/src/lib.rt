@@ -7,6 +7,7 @@ mod items;
 mod kinds;
 mod number;
 mod stack;
+mod values;
 
 pub use crate::faults::{ThriftFault, ThriftFaultCode};
 pub use crate::kinds::Kind;
