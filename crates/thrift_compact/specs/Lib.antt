@@ -2,3 +2,4 @@ pub mod Codes
 pub mod Varints
 pub mod Items
 pub mod Opens
+pub mod Runs

@@ -13,6 +13,8 @@ const LARGEST_SIZE: u64 = 0x7fff_ffff;
 pub(crate) fn byte_of(bytes: &[u8]) -> Result<(u8, usize), ThriftFault>
     ensures exact { result ≡ byte_at bytes.now }
     ensures bound { IfOk result (λ x. x.1 ≤ length bytes.now) }
+    ensures place { IfErr result (λ f. f.at ≤ length bytes.now) }
+    ensures some { IfOk result (λ x. 0 < x.1) }
 {
     match bytes {
         [] => Err(fault_at(ThriftFaultCode::Truncated, 0)),
@@ -30,6 +32,8 @@ fn unzigzag(number: u64) -> i64
 fn signed_of(limit: u64, bytes: &[u8]) -> Result<(i64, usize), ThriftFault>
     ensures exact { result ≡ signed_at limit bytes.now }
     ensures bound { IfOk result (λ x. x.1 ≤ length bytes.now) }
+    ensures place { IfErr result (λ f. f.at ≤ length bytes.now) }
+    ensures some { IfOk result (λ x. 0 < x.1) }
 {
     let (number, taken) = varint_within(bytes, limit)?;
     Ok((unzigzag(number), taken))
@@ -39,6 +43,8 @@ fn signed_of(limit: u64, bytes: &[u8]) -> Result<(i64, usize), ThriftFault>
 pub(crate) fn number_of(kind: Kind, bytes: &[u8]) -> Result<(i64, usize), ThriftFault>
     ensures exact { result ≡ number_at kind bytes.now }
     ensures bound { IfOk result (λ x. x.1 ≤ length bytes.now) }
+    ensures place { IfErr result (λ f. f.at ≤ length bytes.now) }
+    ensures some { IfOk result (λ x. 0 < x.1) }
 {
     match kind {
         Kind::I8 => {
@@ -56,6 +62,8 @@ pub(crate) fn number_of(kind: Kind, bytes: &[u8]) -> Result<(i64, usize), Thrift
 pub(crate) fn list_header_of(bytes: &[u8]) -> Result<((Kind, u32), usize), ThriftFault>
     ensures exact { result ≡ list_header_at bytes.now }
     ensures bound { IfOk result (λ x. x.1 ≤ length bytes.now) }
+    ensures place { IfErr result (λ f. f.at ≤ length bytes.now) }
+    ensures some { IfOk result (λ x. 0 < x.1) }
 {
     let [first, rest @ ..] = bytes else {
         return Err(fault_at(ThriftFaultCode::Truncated, 0));
@@ -77,6 +85,8 @@ pub(crate) fn map_header_of(bytes: &[u8]) -> Result<(Option<(Kind, Kind, u32)>, 
     ensures exact { result ≡ map_header_at bytes.now }
     ensures size { IfOk result (λ x. IfSome x.0 (λ h. h.2 < 2 ^ 31)) }
     ensures bound { IfOk result (λ x. x.1 ≤ length bytes.now) }
+    ensures place { IfErr result (λ f. f.at ≤ length bytes.now) }
+    ensures some { IfOk result (λ x. 0 < x.1) }
 {
     let (size, taken) = varint_within(bytes, LARGEST_SIZE)?;
     if size == 0 {
@@ -96,6 +106,8 @@ pub(crate) fn byte_list_of(bytes: &[u8]) -> Result<(&[u8], usize), ThriftFault>
     ensures exact { IfOk result (λ x. byte_list_at bytes.now ≡ Ok (x.0.now, x.1)) }
     ensures fault { IfErr result (λ f. byte_list_at bytes.now ≡ Err f) }
     ensures bound { IfOk result (λ x. x.1 ≤ length bytes.now) }
+    ensures place { IfErr result (λ f. f.at ≤ length bytes.now) }
+    ensures some { IfOk result (λ x. 0 < x.1) }
 {
     let (len, taken) = varint_within(bytes, LARGEST_SIZE)?;
     let rest = &bytes[taken..];
@@ -109,6 +121,8 @@ pub(crate) fn byte_list_of(bytes: &[u8]) -> Result<(&[u8], usize), ThriftFault>
 fn field_number_of(bytes: &[u8]) -> Result<(i16, usize), ThriftFault>
     ensures exact { result ≡ signed_at (2 ^ 16 - 1) bytes.now }
     ensures bound { IfOk result (λ x. x.1 ≤ length bytes.now) }
+    ensures place { IfErr result (λ f. f.at ≤ length bytes.now) }
+    ensures some { IfOk result (λ x. 0 < x.1) }
 {
     let (number, taken) = varint_within(bytes, 0xffff)?;
     let half = (number / 2) as i16;
@@ -123,6 +137,7 @@ pub(crate) fn header_of(
 ) -> Result<(Option<(i16, Kind)>, usize), ThriftFault>
     ensures exact { result ≡ header_at last bytes.now }
     ensures bound { IfOk result (λ x. x.1 ≤ length bytes.now) }
+    ensures place { IfErr result (λ f. f.at ≤ length bytes.now) }
     ensures some { IfOk result (λ x. 0 < x.1) }
 {
     let [first, rest @ ..] = bytes else {

@@ -1,5 +1,5 @@
 //! Varints.
-ghost use Rattle.std.specs.Prelude.{◌≡◌, ◌^◌, ◌-◌, ◌+◌, ◌≤◌, length, IfOk};
+ghost use Rattle.std.specs.Prelude.{◌≡◌, ◌^◌, ◌-◌, ◌+◌, ◌≤◌, ◌<◌, length, IfOk, IfErr};
 ghost use Rattle.std.specs.List.{position};
 ghost use Rattle.thrift_compact.specs.Varints.{varint_at, varint_number, low_groups, is_last};
 
@@ -18,6 +18,8 @@ pub(crate) fn varint_within(bytes: &[u8], limit: u64) -> Result<(u64, usize), Th
     ensures exact { result ≡ varint_at limit bytes.now }
     ensures within { IfOk result (λ x. x.0 ≤ limit) }
     ensures bound { IfOk result (λ x. x.1 ≤ length bytes.now) }
+    ensures place { IfErr result (λ f. f.at ≤ length bytes.now) }
+    ensures some { IfOk result (λ x. 0 < x.1) }
 {
     let Some(last) = last_place(bytes) else {
         return Err(fault_at(ThriftFaultCode::Truncated, 0));

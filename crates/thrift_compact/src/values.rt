@@ -1,6 +1,7 @@
 //! The front of a value: what it opens, or all of it.
-ghost use Rattle.std.specs.Prelude.{◌≡◌, ◌≤◌, ◌<◌, ◌*◌, ◌^◌, length, IfOk, IfSome};
+ghost use Rattle.std.specs.Prelude.{◌≡◌, ◌≤◌, ◌<◌, ◌*◌, ◌^◌, length, IfOk, IfErr, IfSome, IsSome, true, ◌+◌, List, Option};
 ghost use Rattle.thrift_compact.specs.Items.{value_at, truth_at, opening, members, map_members, double_at, list_header_at, map_header_at, then_read};
+ghost use Rattle.thrift_compact.specs.Runs.{fresh};
 
 use crate::faults::{ThriftFault, ThriftFaultCode, fault_at};
 use crate::items::{byte_list_of, byte_of, list_header_of, map_header_of, number_of};
@@ -32,7 +33,8 @@ fn opening(
     what: Option<Open>,
     taken: usize,
 ) -> Result<(Option<Open>, usize), ThriftFault>
-    ensures { result ≡ opening already what taken }
+    ensures exact { result ≡ opening already what taken }
+    ensures room { IfOk result (λ x. IsSome x.0 → already < 32) }
 {
     if already >= MOST_OPEN {
         return Err(fault_at(ThriftFaultCode::TooDeep, 0));
@@ -42,7 +44,10 @@ fn opening(
 
 fn sequence_of(already: usize, bytes: &[u8]) -> Result<(Option<Open>, usize), ThriftFault>
     ensures exact { result ≡ then_read (list_header_at bytes.now) (λ h. opening already (members h.0.0 h.0.0 h.0.1) h.1) }
+    ensures some { IfOk result (λ x. 0 < x.1) }
     ensures bound { IfOk result (λ x. x.1 ≤ length bytes.now) }
+    ensures place { IfErr result (λ f. f.at ≤ length bytes.now) }
+    ensures room { IfOk result (λ x. IsSome x.0 → already < 32) }
 {
     let ((kind, size), taken) = list_header_of(bytes)?;
     opening(already, members(kind, kind, size), taken)
@@ -50,7 +55,10 @@ fn sequence_of(already: usize, bytes: &[u8]) -> Result<(Option<Open>, usize), Th
 
 fn map_of(already: usize, bytes: &[u8]) -> Result<(Option<Open>, usize), ThriftFault>
     ensures exact { result ≡ then_read (map_header_at bytes.now) (λ h. opening already (map_members h.0) h.1) }
+    ensures some { IfOk result (λ x. 0 < x.1) }
     ensures bound { IfOk result (λ x. x.1 ≤ length bytes.now) }
+    ensures place { IfErr result (λ f. f.at ≤ length bytes.now) }
+    ensures room { IfOk result (λ x. IsSome x.0 → already < 32) }
 {
     let (header, taken) = map_header_of(bytes)?;
     opening(already, map_members(header), taken)
@@ -58,7 +66,9 @@ fn map_of(already: usize, bytes: &[u8]) -> Result<(Option<Open>, usize), ThriftF
 
 fn double_of(bytes: &[u8]) -> Result<(Option<Open>, usize), ThriftFault>
     ensures exact { result ≡ double_at bytes.now }
+    ensures some { IfOk result (λ x. 0 < x.1) }
     ensures bound { IfOk result (λ x. x.1 ≤ length bytes.now) }
+    ensures place { IfErr result (λ f. f.at ≤ length bytes.now) }
 {
     if bytes.len() < 8 {
         return Err(fault_at(ThriftFaultCode::Truncated, 0));
@@ -68,7 +78,9 @@ fn double_of(bytes: &[u8]) -> Result<(Option<Open>, usize), ThriftFault>
 
 fn truth_of(member: bool, bytes: &[u8]) -> Result<(Option<Open>, usize), ThriftFault>
     ensures exact { result ≡ truth_at member bytes.now }
+    ensures some { IfOk result (λ x. member ≡ true → 0 < x.1) }
     ensures bound { IfOk result (λ x. x.1 ≤ length bytes.now) }
+    ensures place { IfErr result (λ f. f.at ≤ length bytes.now) }
 {
     if !member {
         return Ok((None, 0));
@@ -88,6 +100,9 @@ pub(crate) fn value_of(
 ) -> Result<(Option<Open>, usize), ThriftFault>
     ensures exact { result ≡ value_at already member kind bytes.now }
     ensures bound { IfOk result (λ x. x.1 ≤ length bytes.now) }
+    ensures progress { IfOk result (λ x. member ≡ true → 1 ≤ x.1 + fresh x.0) }
+    ensures room { IfOk result (λ x. IsSome x.0 → already < 32) }
+    ensures place { IfErr result (λ f. f.at ≤ length bytes.now) }
 {
     match kind {
         Kind::True | Kind::False => truth_of(member, bytes),
