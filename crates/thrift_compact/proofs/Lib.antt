@@ -1,2 +1,3 @@
 pub mod VarintLemmas
 pub mod StackLemmas
+pub mod RunLemmas

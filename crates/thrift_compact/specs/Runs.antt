@@ -16,22 +16,24 @@ abbrev pub behind : {X : Type 0} → ℕ → Item X → Item X
 behind taken (Ok x) = Ok (x.0, taken + x.1)
 behind taken (Err f) = Err (placed taken f)
 
--- the value of a field behind its header, or the end of the struct
+-- a value of a kind, inside what is open: what is open then, and the bytes that are taken
+unfoldable pub value_step : ℕ → Bool → Kind → List Open → List ℕ → Item (List Open)
+value_step already member kind nest bytes =
+    then_read (value_at (already + length nest) member kind bytes) (λ v. Ok (with_opened v.0 nest, v.1))
+
+-- behind a field's header its value, or the end of the struct
 abbrev pub field_step : ℕ → List Open → List ℕ → Option (ℤ × Kind) × ℕ → Item (List Open)
 field_step already below bytes (None, taken) = Ok (ended below, taken)
 field_step already below bytes (Some f, taken) =
-    let nest = Fields f.0 ∷ below in
-    behind taken (then_read (value_at (already + length nest) false f.1 (drop taken bytes)) (λ v. Ok (with_opened v.0 nest, v.1)))
+    behind taken (value_step already false f.1 (Fields f.0 ∷ below) (drop taken bytes))
 
--- the next field or member of what is open, beside so many constructs that are open around it: what is
--- open then, and the bytes that are taken
+-- the next field or member of what is open, beside so many constructs that are open around it
 unfoldable pub step : ℕ → List Open → List ℕ → Item (List Open)
 step already [] bytes = Ok ([], 0)
 step already (Fields last ∷ below) bytes =
     then_read (header_at last bytes) (field_step already below bytes)
 step already (Members kind next left ∷ below) bytes =
-    let nest = Members kind next left ∷ below in
-    then_read (value_at (already + length nest) true kind bytes) (λ v. Ok (with_opened v.0 nest, v.1))
+    value_step already true kind (Members kind next left ∷ below) bytes
 
 -- from a place on, with this open, the answer is the place behind it all, or the first fault
 pub data Runs (already : ℕ) (bytes : List ℕ) (answer : Result ℕ ThriftFault) : List Open → ℕ → Type 0 where

@@ -6,6 +6,7 @@ mod faults;
 mod items;
 mod kinds;
 mod number;
+mod skipping;
 mod stack;
 mod values;
 

@@ -1,6 +1,6 @@
 //! What is open at a place: structs and lists, and the maps that a skip goes through.
-ghost use Rattle.std.specs.Prelude.{◌≡◌, ◌+◌, ◌-◌, ◌<◌, ◌≤◌, [], ◌∷◌, length};
-ghost use Rattle.thrift_compact.specs.Opens.{top_of, below_top, ended};
+ghost use Rattle.std.specs.Prelude.{◌≡◌, ◌+◌, ◌-◌, ◌<◌, ◌≤◌, [], ◌∷◌, length, IsSome, IsNone};
+ghost use Rattle.thrift_compact.specs.Opens.{top_of, below_top, ended, with_opened};
 
 use crate::kinds::Kind;
 use std::marker::Model;
@@ -83,7 +83,8 @@ impl OpenStack {
 
     /// A value has ended.
     pub fn end_value(&mut self)
-        ensures { self.new ≡ ended self.old }
+        ensures ended { self.new ≡ ended self.old }
+        ensures shorter { length self.new ≤ length self.old }
     {
         while let Some(Open::Members { kind, next, left }) = self.top() {
             self.pop();
@@ -96,6 +97,19 @@ impl OpenStack {
                 self.push(rest);
                 return;
             }
+        }
+    }
+
+    /// A value has ended that opened nothing, or this is now open in it.
+    pub fn open_or_end(&mut self, opened: Option<Open>)
+        requires { IsSome opened → length self.old < 32 }
+        ensures after { self.new ≡ with_opened opened self.old }
+        ensures longer { length self.new ≤ length self.old + 1 }
+        ensures shorter { IsNone opened → length self.new ≤ length self.old }
+    {
+        match opened {
+            None => self.end_value(),
+            Some(frame) => self.push(frame),
         }
     }
 }
