@@ -3,3 +3,4 @@ pub mod Varints
 pub mod Items
 pub mod Opens
 pub mod Runs
+pub mod States

@@ -1,5 +1,6 @@
 -- What is open at a place, the innermost first.
 use Rattle.std.specs.Prelude.{ℕ, zero, suc, ◌-◌, ℤ, pos, Bool, true, false, nat_le, List, [], ◌∷◌, slice_index_or, if◌then◌else◌, Option, Some, None}
+use Rattle.thrift_compact.specs.declared.kinds.Kind.{Kind}
 use Rattle.thrift_compact.specs.declared.stack.Open.{Open}
 use Rattle.thrift_compact.specs.declared.stack.Open.TheVariants.{Fields, Members}
 
@@ -36,3 +37,20 @@ with_opened (Some o) nest = o ∷ nest
 abbrev pub innermost_first : List Open → ℕ → List Open
 innermost_first frames zero = []
 innermost_first frames (suc n) = slice_index_or frames n (Fields (pos 0)) ∷ innermost_first frames n
+
+-- the innermost is a struct
+abbrev pub in_fields : List Open → Bool
+in_fields [] = false
+in_fields (Fields last ∷ nest) = true
+in_fields (Members kind next left ∷ nest) = false
+
+-- the number of its last field
+abbrev pub last_number : List Open → ℤ
+last_number [] = pos 0
+last_number (Fields last ∷ nest) = last
+last_number (Members kind next left ∷ nest) = pos 0
+
+-- behind a field's header, or behind the end of the struct
+abbrev pub after_header : Option (ℤ × Kind) → List Open → List Open
+after_header None nest = ended (below_top nest)
+after_header (Some f) nest = Fields f.0 ∷ below_top nest

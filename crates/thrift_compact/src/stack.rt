@@ -1,6 +1,6 @@
 //! What is open at a place: structs and lists, and the maps that a skip goes through.
 ghost use Rattle.std.specs.Prelude.{◌≡◌, ◌+◌, ◌-◌, ◌<◌, ◌≤◌, [], ◌∷◌, length, IsSome, IsNone};
-ghost use Rattle.thrift_compact.specs.Opens.{top_of, below_top, ended, with_opened};
+ghost use Rattle.thrift_compact.specs.Opens.{top_of, below_top, ended, with_opened, last_number, after_header};
 
 use crate::kinds::Kind;
 use std::marker::Model;
@@ -74,11 +74,34 @@ impl OpenStack {
     }
 
     pub fn pop(&mut self)
-        requires { 0 < length self.old }
         ensures below { self.new ≡ below_top self.old }
-        ensures len { length self.new + 1 ≡ length self.old }
+        ensures len { length self.new ≡ length self.old - 1 }
     {
-        self.len -= 1;
+        self.len = self.len.saturating_sub(1);
+    }
+
+    /// The number of the last field of the innermost struct.
+    pub fn last_field(&self) -> i16
+        ensures { result ≡ last_number self.now }
+    {
+        match self.top() {
+            Some(Open::Fields { last }) => last,
+            _ => 0,
+        }
+    }
+
+    /// A field's header was read, or the end of the struct.
+    pub fn pass_header(&mut self, header: Option<(i16, Kind)>)
+        ensures after { self.new ≡ after_header header self.old }
+        ensures longer { length self.new ≤ length self.old + 1 }
+        ensures shorter { 0 < length self.old → length self.new ≤ length self.old }
+    {
+        let _bound = self.len();
+        self.pop();
+        match header {
+            None => self.end_value(),
+            Some((number, _)) => self.push(Open::Fields { last: number }),
+        }
     }
 
     /// A value has ended.

@@ -8,7 +8,7 @@ use crate::items::{byte_list_of, byte_of, list_header_of, map_header_of, number_
 use crate::kinds::Kind;
 use crate::stack::{MOST_OPEN, Open};
 
-fn members(kind: Kind, next: Kind, left: u32) -> Option<Open>
+pub(crate) fn members(kind: Kind, next: Kind, left: u32) -> Option<Open>
     ensures { result ≡ members kind next left }
 {
     if left == 0 {

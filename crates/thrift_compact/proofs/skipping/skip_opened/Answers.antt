@@ -8,7 +8,7 @@ loop-stack-preserved c =
     record {
       within = omega (arith, c.in-Ok.ensures.bound);
       room = c.in-Ok.ensures.room;
-      answers = λ answer r. c.loop-stack.invariant.answers answer (steps_here _ _ _ c.loop-stack.place c.step.new.stack c.in-Ok.taken some (rw (← c.rest_of.ensures.value) c.in-Ok.ensures.ok) answer r)
+      answers = λ answer r. c.loop-stack.invariant.answers answer (steps_here _ _ _ c.loop-stack.place c.step.new.stack c.in-Ok.taken some (rw (← c.rest_of.ensures.value) c.in-Ok.ensures.ok) answer r);
     }
 
 pub returns-in-Err-clause-exact : goal.returns-in-Err-clause-exact
