@@ -59,18 +59,18 @@ unfoldable pub bytes_answer : State → Result (List ℕ) ThriftFault × State
 bytes_answer s = answer s.fault s (λ b. b) (λ _. ended s.nesting) (byte_list_at (left s))
 
 -- what is read, if fewer than 32 are open
-abbrev pub if_room : {A : Type 0} → List Open → A × ℕ → Item A
-if_room nest x = if nat_le 32 (length nest) then fault TooDeep 0 else Ok x
+abbrev pub if_room : {A : Type 0} → ℕ → A × ℕ → Item A
+if_room already x = if nat_le 32 already then fault TooDeep 0 else Ok x
 
 -- the kind and number of a list's members
 unfoldable pub list_answer : State → Result (Kind × ℕ) ThriftFault × State
 list_answer s =
-    answer s.fault s (λ h. h) (λ h. with_opened (members h.0 h.0 h.1) s.nesting) (then_read (list_header_at (left s)) (if_room s.nesting))
+    answer s.fault s (λ h. h) (λ h. with_opened (members h.0 h.0 h.1) s.nesting) (then_read (list_header_at (left s)) (if_room (length s.nesting)))
 
 -- a struct opens, which takes no byte
 unfoldable pub enter_answer : State → Result (Unit {0}) ThriftFault × State
 enter_answer s =
-    answer s.fault s (λ u. u) (λ _. Fields (pos 0) ∷ s.nesting) (if_room s.nesting (tt, 0))
+    answer s.fault s (λ u. u) (λ _. Fields (pos 0) ∷ s.nesting) (if_room (length s.nesting) (tt, 0))
 
 -- a value is passed over, up to a place, or is faulty
 abbrev pub skipped : State → Result ℕ ThriftFault → Result (Unit {0}) ThriftFault × State

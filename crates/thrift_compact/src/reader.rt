@@ -1,7 +1,9 @@
 //! The reader.
-ghost use Rattle.std.specs.Prelude.{◌≡◌, ◌≤◌, ◌+◌, length};
-ghost use Rattle.thrift_compact.specs.Runs.{placed};
-ghost use Rattle.thrift_compact.specs.States.{over_bytes, faulted, CanReadField, field_answer, int_answer, bytes_answer, list_answer, enter_answer, SkipAnswer, given_bytes};
+ghost use Rattle.std.specs.Prelude.{◌≡◌, ◌≤◌, ◌<◌, ◌+◌, length, IfOk, IfErr};
+ghost use Rattle.thrift_compact.specs.Runs.{placed, Passes};
+ghost use Rattle.thrift_compact.specs.States.{over_bytes, faulted, CanReadField, field_answer, int_answer, bytes_answer, list_answer, enter_answer, SkipAnswer, given_bytes, if_room};
+ghost use Rattle.thrift_compact.specs.Items.{list_header_at, then_read};
+ghost use Rattle.thrift_compact.specs.Opens.{in_members};
 
 use crate::faults::{ThriftFault, ThriftFaultCode, fault_at};
 use crate::items::{byte_list_of, header_of, list_header_of, number_of};
@@ -105,4 +107,111 @@ impl<'r> Reader<'r> {
             Err(fault) => Err(self.fail(fault)),
         }
     }
+
+    /// A byte list ("Binary encoding"), lent from the reader's bytes.
+    #[tactic(auto, unfolding(crate::specs::States::bytes_answer))]
+    pub fn bytes(&mut self) -> Result<&'r [u8], ThriftFault>
+        ensures exact { (given_bytes (λ r. r.now) result, self.new) ≡ bytes_answer self.old }
+    {
+        if let Some(fault) = self.fault {
+            return Err(fault);
+        }
+        match byte_list_of(rest_of(self.bytes, self.at)) {
+            Ok((list, taken)) => {
+                self.at += taken;
+                self.nesting.end_value();
+                Ok(list)
+            }
+            Err(fault) => Err(self.fail(fault)),
+        }
+    }
+
+    /// The kind and number of the members of a list or set, which opens here ("List and Set"). Its last
+    /// member closes it, and it is closed at once where it has none.
+    #[tactic(auto, unfolding(crate::specs::States::list_answer))]
+    pub fn list(&mut self) -> Result<(Kind, u32), ThriftFault>
+        ensures exact { (result, self.new) ≡ list_answer self.old }
+    {
+        if let Some(fault) = self.fault {
+            return Err(fault);
+        }
+        match list_of(self.nesting.len(), rest_of(self.bytes, self.at)) {
+            Ok(((kind, size), taken)) => {
+                self.at += taken;
+                self.nesting.open_or_end(members(kind, kind, size));
+                Ok((kind, size))
+            }
+            Err(fault) => Err(self.fail(fault)),
+        }
+    }
+
+    /// Opens a struct, which takes no byte. The end of its fields closes it.
+    #[tactic(auto, unfolding(crate::specs::States::enter_answer))]
+    pub fn enter(&mut self) -> Result<(), ThriftFault>
+        ensures exact { (result, self.new) ≡ enter_answer self.old }
+    {
+        if let Some(fault) = self.fault {
+            return Err(fault);
+        }
+        if self.nesting.len() >= MOST_OPEN {
+            return Err(self.fail(fault_at(ThriftFaultCode::TooDeep, 0)));
+        }
+        self.nesting.push(Open::Fields { last: 0 });
+        Ok(())
+    }
+
+    /// Passes over a value of any kind. The truth value of a struct's field takes no byte, as its header
+    /// has it.
+    pub fn skip(&mut self, kind: Kind) -> Result<(), ThriftFault>
+        ensures exact { SkipAnswer kind self.old (result, self.new) }
+    {
+        if let Some(fault) = self.fault {
+            return Err(fault);
+        }
+        match pass(self.bytes, self.at, &self.nesting, kind) {
+            Ok(at) => {
+                self.at = at;
+                self.nesting.end_value();
+                Ok(())
+            }
+            Err(fault) => {
+                self.at = fault.at as usize;
+                self.fault = Some(fault);
+                Err(fault)
+            }
+        }
+    }
+}
+
+// The place behind a value, or its first fault.
+fn pass(bytes: &[u8], at: usize, nesting: &OpenStack, kind: Kind) -> Result<usize, ThriftFault>
+    requires { at ≤ length bytes.now }
+    ensures exact { Passes (length nesting.now) (in_members nesting.now) kind bytes.now at result }
+    ensures bound { IfOk result (λ n. n ≤ length bytes.now) }
+    ensures place { IfErr result (λ f. f.at ≤ length bytes.now) }
+{
+    match value_of(
+        nesting.len(),
+        nesting.in_members(),
+        kind,
+        rest_of(bytes, at),
+    ) {
+        Ok((None, taken)) => Ok(at + taken),
+        Ok((Some(first), taken)) => skip_opened(bytes, at + taken, nesting.len(), first),
+        Err(fault) => Err(placed(at, fault)),
+    }
+}
+
+// The header of a list or set, where so many constructs are open already.
+fn list_of(already: usize, bytes: &[u8]) -> Result<((Kind, u32), usize), ThriftFault>
+    ensures exact { result ≡ then_read (list_header_at bytes.now) (if_room already) }
+    ensures bound { IfOk result (λ x. x.1 ≤ length bytes.now) }
+    ensures place { IfErr result (λ f. f.at ≤ length bytes.now) }
+    ensures room { IfOk result (λ _. already < 32) }
+{
+    let header = list_header_of(bytes)?;
+    if already >= MOST_OPEN {
+        return Err(fault_at(ThriftFaultCode::TooDeep, 0));
+    }
+    Ok(header)
 }

@@ -1,6 +1,6 @@
 //! What is open at a place: structs and lists, and the maps that a skip goes through.
 ghost use Rattle.std.specs.Prelude.{◌≡◌, ◌+◌, ◌-◌, ◌<◌, ◌≤◌, [], ◌∷◌, length, IsSome, IsNone};
-ghost use Rattle.thrift_compact.specs.Opens.{top_of, below_top, ended, with_opened, last_number, after_header};
+ghost use Rattle.thrift_compact.specs.Opens.{top_of, below_top, ended, with_opened, last_number, after_header, in_members};
 
 use crate::kinds::Kind;
 use std::marker::Model;
@@ -88,6 +88,13 @@ impl OpenStack {
             Some(Open::Fields { last }) => last,
             _ => 0,
         }
+    }
+
+    /// Whether a value here is a member of a list.
+    pub fn in_members(&self) -> bool
+        ensures { result ≡ in_members self.now }
+    {
+        matches!(self.top(), Some(Open::Members { .. }))
     }
 
     /// A field's header was read, or the end of the struct.
