@@ -1,9 +1,9 @@
 //! The reader.
-ghost use Rattle.std.specs.Prelude.{◌≡◌, ◌≤◌, ◌<◌, ◌+◌, length, IfOk, IfErr};
+ghost use Rattle.std.specs.Prelude.{◌≡◌, ◌≤◌, ◌<◌, ◌+◌, length, IfOk, IfErr, OnOk, IsSome, Some, ◌∷◌, pos};
 ghost use Rattle.thrift_compact.specs.Runs.{placed, Passes};
 ghost use Rattle.thrift_compact.specs.States.{over_bytes, faulted, CanReadField, field_answer, int_answer, bytes_answer, list_answer, enter_answer, SkipAnswer, given_bytes, if_room};
-ghost use Rattle.thrift_compact.specs.Items.{list_header_at, then_read};
-ghost use Rattle.thrift_compact.specs.Opens.{in_members};
+ghost use Rattle.thrift_compact.specs.Items.{list_header_at, then_read, members};
+ghost use Rattle.thrift_compact.specs.Opens.{in_members, ended, with_opened, after_header};
 
 use crate::faults::{ThriftFault, ThriftFaultCode, fault_at};
 use crate::items::{byte_list_of, header_of, list_header_of, number_of};
@@ -75,6 +75,9 @@ impl<'r> Reader<'r> {
     #[tactic(auto, unfolding(crate::specs::States::field_answer))]
     pub fn field(&mut self) -> Result<Option<(i16, Kind)>, ThriftFault>
         requires { CanReadField self.old }
+        ensures nesting { IfOk result (λ h. self.new.nesting ≡ after_header h self.old.nesting) }
+        ensures fault { IfErr result (λ f. self.new.fault ≡ Some f) }
+        ensures again { IfOk result (λ h. IsSome h → CanReadField self.new) }
         ensures exact { (result, self.new) ≡ field_answer self.old }
     {
         if let Some(fault) = self.fault {
@@ -93,6 +96,9 @@ impl<'r> Reader<'r> {
     /// A number of kind `I8`, `I16`, `I32` or `I64` ("Integer encoding"). Another kind is `BadKind`.
     #[tactic(auto, unfolding(crate::specs::States::int_answer))]
     pub fn int(&mut self, kind: Kind) -> Result<i64, ThriftFault>
+        ensures nesting { OnOk result (self.new.nesting ≡ ended self.old.nesting) }
+        ensures fault { IfErr result (λ f. self.new.fault ≡ Some f) }
+        ensures again { CanReadField self.old → CanReadField self.new }
         ensures exact { (result, self.new) ≡ int_answer kind self.old }
     {
         if let Some(fault) = self.fault {
@@ -111,6 +117,9 @@ impl<'r> Reader<'r> {
     /// A byte list ("Binary encoding"), lent from the reader's bytes.
     #[tactic(auto, unfolding(crate::specs::States::bytes_answer))]
     pub fn bytes(&mut self) -> Result<&'r [u8], ThriftFault>
+        ensures nesting { OnOk result (self.new.nesting ≡ ended self.old.nesting) }
+        ensures fault { IfErr result (λ f. self.new.fault ≡ Some f) }
+        ensures again { CanReadField self.old → CanReadField self.new }
         ensures exact { (given_bytes (λ r. r.now) result, self.new) ≡ bytes_answer self.old }
     {
         if let Some(fault) = self.fault {
@@ -130,6 +139,8 @@ impl<'r> Reader<'r> {
     /// member closes it, and it is closed at once where it has none.
     #[tactic(auto, unfolding(crate::specs::States::list_answer))]
     pub fn list(&mut self) -> Result<(Kind, u32), ThriftFault>
+        ensures nesting { IfOk result (λ h. self.new.nesting ≡ with_opened (members h.0 h.0 h.1) self.old.nesting) }
+        ensures fault { IfErr result (λ f. self.new.fault ≡ Some f) }
         ensures exact { (result, self.new) ≡ list_answer self.old }
     {
         if let Some(fault) = self.fault {
@@ -148,6 +159,9 @@ impl<'r> Reader<'r> {
     /// Opens a struct, which takes no byte. The end of its fields closes it.
     #[tactic(auto, unfolding(crate::specs::States::enter_answer))]
     pub fn enter(&mut self) -> Result<(), ThriftFault>
+        ensures nesting { OnOk result (self.new.nesting ≡ Open.Fields (pos 0) ∷ self.old.nesting) }
+        ensures fault { IfErr result (λ f. self.new.fault ≡ Some f) }
+        ensures again { CanReadField self.new }
         ensures exact { (result, self.new) ≡ enter_answer self.old }
     {
         if let Some(fault) = self.fault {
@@ -163,6 +177,9 @@ impl<'r> Reader<'r> {
     /// Passes over a value of any kind. The truth value of a struct's field takes no byte, as its header
     /// has it.
     pub fn skip(&mut self, kind: Kind) -> Result<(), ThriftFault>
+        ensures nesting { OnOk result (self.new.nesting ≡ ended self.old.nesting) }
+        ensures fault { IfErr result (λ f. self.new.fault ≡ Some f) }
+        ensures again { CanReadField self.old → CanReadField self.new }
         ensures exact { SkipAnswer kind self.old (result, self.new) }
     {
         if let Some(fault) = self.fault {
