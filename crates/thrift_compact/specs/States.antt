@@ -1,7 +1,7 @@
 -- What a reader stands at, and what each of its calls answers and leaves. A call on a reader with a fault
 -- answers that fault and leaves the reader as it was. Else it reads what stands at the reader's place: it
 -- moves behind that, or keeps the first fault and stands at the fault's place.
-use Rattle.std.specs.Prelude.{◌≡◌, ℕ, ℤ, pos, ◌+◌, Bool, true, false, ◌||◌, IsTrue, is_some, nat_le, List, [], ◌∷◌, length, drop, if◌then◌else◌, Option, None, Some, Result, Ok, Err}
+use Rattle.std.specs.Prelude.{◌≡◌, ◌≤◌, ℕ, ℤ, pos, ◌+◌, Bool, true, false, ◌||◌, IsTrue, is_some, nat_le, List, [], ◌∷◌, length, drop, if◌then◌else◌, Option, None, Some, Result, Ok, Err}
 use Rattle.thrift_compact.specs.declared.faults.ThriftFault.{ThriftFault}
 use Rattle.thrift_compact.specs.declared.faults.ThriftFaultCode.TheVariants.{TooDeep}
 use Rattle.thrift_compact.specs.declared.kinds.Kind.{Kind}
@@ -93,3 +93,9 @@ SkipAnswer kind s given = SkipGives s.fault kind s given
 abbrev pub given_bytes : {R : Type 0} → (R → List ℕ) → Result R ThriftFault → Result (List ℕ) ThriftFault
 given_bytes now (Ok r) = Ok (now r)
 given_bytes now (Err f) = Err f
+
+-- the reader has the same bytes, and stands in them at its old place or behind it
+pub record MovesOn (old new : State) : Type 0 where
+  pub bytes : new.bytes ≡ old.bytes
+  pub forward : old.at ≤ new.at
+  pub within : new.at ≤ length new.bytes

@@ -9,6 +9,8 @@ mod number;
 mod reader;
 mod skipping;
 mod stack;
+#[cfg(test)]
+mod tests;
 mod values;
 
 pub use crate::faults::{ThriftFault, ThriftFaultCode};

@@ -1,7 +1,7 @@
 //! The reader.
 ghost use Rattle.std.specs.Prelude.{◌≡◌, ◌≤◌, ◌<◌, ◌+◌, length, IfOk, IfErr, OnOk, IsSome, Some, ◌∷◌, pos};
 ghost use Rattle.thrift_compact.specs.Runs.{placed, Passes};
-ghost use Rattle.thrift_compact.specs.States.{over_bytes, faulted, CanReadField, field_answer, int_answer, bytes_answer, list_answer, enter_answer, SkipAnswer, given_bytes, if_room};
+ghost use Rattle.thrift_compact.specs.States.{over_bytes, faulted, CanReadField, MovesOn, field_answer, int_answer, bytes_answer, list_answer, enter_answer, SkipAnswer, given_bytes, if_room};
 ghost use Rattle.thrift_compact.specs.Items.{list_header_at, then_read, members};
 ghost use Rattle.thrift_compact.specs.Opens.{in_members, ended, with_opened, after_header};
 
@@ -79,6 +79,8 @@ impl<'r> Reader<'r> {
         ensures fault { IfErr result (λ f. self.new.fault ≡ Some f) }
         ensures again { IfOk result (λ h. IsSome h → CanReadField self.new) }
         ensures exact { (result, self.new) ≡ field_answer self.old }
+        ensures moves { MovesOn self.old self.new }
+        ensures taken { OnOk result (self.old.at < self.new.at) }
     {
         if let Some(fault) = self.fault {
             return Err(fault);
@@ -100,6 +102,8 @@ impl<'r> Reader<'r> {
         ensures fault { IfErr result (λ f. self.new.fault ≡ Some f) }
         ensures again { CanReadField self.old → CanReadField self.new }
         ensures exact { (result, self.new) ≡ int_answer kind self.old }
+        ensures moves { MovesOn self.old self.new }
+        ensures taken { OnOk result (self.old.at < self.new.at) }
     {
         if let Some(fault) = self.fault {
             return Err(fault);
@@ -121,6 +125,8 @@ impl<'r> Reader<'r> {
         ensures fault { IfErr result (λ f. self.new.fault ≡ Some f) }
         ensures again { CanReadField self.old → CanReadField self.new }
         ensures exact { (given_bytes (λ r. r.now) result, self.new) ≡ bytes_answer self.old }
+        ensures moves { MovesOn self.old self.new }
+        ensures taken { OnOk result (self.old.at < self.new.at) }
     {
         if let Some(fault) = self.fault {
             return Err(fault);
@@ -142,6 +148,8 @@ impl<'r> Reader<'r> {
         ensures nesting { IfOk result (λ h. self.new.nesting ≡ with_opened (members h.0 h.0 h.1) self.old.nesting) }
         ensures fault { IfErr result (λ f. self.new.fault ≡ Some f) }
         ensures exact { (result, self.new) ≡ list_answer self.old }
+        ensures moves { MovesOn self.old self.new }
+        ensures taken { OnOk result (self.old.at < self.new.at) }
     {
         if let Some(fault) = self.fault {
             return Err(fault);
@@ -163,6 +171,7 @@ impl<'r> Reader<'r> {
         ensures fault { IfErr result (λ f. self.new.fault ≡ Some f) }
         ensures again { CanReadField self.new }
         ensures exact { (result, self.new) ≡ enter_answer self.old }
+        ensures moves { MovesOn self.old self.new }
     {
         if let Some(fault) = self.fault {
             return Err(fault);
@@ -181,6 +190,7 @@ impl<'r> Reader<'r> {
         ensures fault { IfErr result (λ f. self.new.fault ≡ Some f) }
         ensures again { CanReadField self.old → CanReadField self.new }
         ensures exact { SkipAnswer kind self.old (result, self.new) }
+        ensures moves { MovesOn self.old self.new }
     {
         if let Some(fault) = self.fault {
             return Err(fault);
@@ -204,8 +214,8 @@ impl<'r> Reader<'r> {
 fn pass(bytes: &[u8], at: usize, nesting: &OpenStack, kind: Kind) -> Result<usize, ThriftFault>
     requires { at ≤ length bytes.now }
     ensures exact { Passes (length nesting.now) (in_members nesting.now) kind bytes.now at result }
-    ensures bound { IfOk result (λ n. n ≤ length bytes.now) }
-    ensures place { IfErr result (λ f. f.at ≤ length bytes.now) }
+    ensures bound { IfOk result (λ n. (at ≤ n) × (n ≤ length bytes.now)) }
+    ensures place { IfErr result (λ f. (at ≤ f.at) × (f.at ≤ length bytes.now)) }
 {
     match value_of(
         nesting.len(),
@@ -222,6 +232,7 @@ fn pass(bytes: &[u8], at: usize, nesting: &OpenStack, kind: Kind) -> Result<usiz
 // The header of a list or set, where so many constructs are open already.
 fn list_of(already: usize, bytes: &[u8]) -> Result<((Kind, u32), usize), ThriftFault>
     ensures exact { result ≡ then_read (list_header_at bytes.now) (if_room already) }
+    ensures some { IfOk result (λ x. 0 < x.1) }
     ensures bound { IfOk result (λ x. x.1 ≤ length bytes.now) }
     ensures place { IfErr result (λ f. f.at ≤ length bytes.now) }
     ensures room { IfOk result (λ _. already < 32) }

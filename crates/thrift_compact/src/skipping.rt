@@ -115,8 +115,8 @@ pub(crate) fn skip_opened(
     requires within { at ≤ length bytes.now }
     requires room { already < 32 }
     ensures exact { Runs already bytes.now result (first ∷ []) at }
-    ensures bound { IfOk result (λ n. n ≤ length bytes.now) }
-    ensures place { IfErr result (λ f. f.at ≤ length bytes.now) }
+    ensures bound { IfOk result (λ n. (at ≤ n) × (n ≤ length bytes.now)) }
+    ensures place { IfErr result (λ f. (at ≤ f.at) × (f.at ≤ length bytes.now)) }
 {
     let mut stack = OpenStack::new();
     stack.push(first);

@@ -6,6 +6,7 @@ pub loop-stack-preserved : goal.loop-stack-preserved
 loop-stack-preserved c =
     let some : 0 < length c.loop-stack.stack = omega arith in
     record {
+      forward = omega arith;
       within = omega (arith, c.in-Ok.ensures.bound);
       room = c.in-Ok.ensures.room;
       answers = λ answer r. c.loop-stack.invariant.answers answer (steps_here _ _ _ c.loop-stack.place c.step.new.stack c.in-Ok.taken some (rw (← c.rest_of.ensures.value) c.in-Ok.ensures.ok) answer r);

@@ -6,6 +6,7 @@ use Rattle.thrift_compact.proofs.skipping.skip_opened.Given as goal
 
 -- what passing on from here answers, passing over the whole answers
 pub record IsHere (bytes : List ℕ) (already from : ℕ) (first : Open) (at : ℕ) (nest : List Open) : Type 0 where
+  pub forward : from ≤ at
   pub within : at ≤ length bytes
   pub room : already + length nest ≤ 32
   pub answers : (answer : Result ℕ ThriftFault) → Runs already bytes answer nest at → Runs already bytes answer (first ∷ []) from
