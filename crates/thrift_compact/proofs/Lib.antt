@@ -1,3 +1,4 @@
 pub mod VarintLemmas
 pub mod StackLemmas
 pub mod RunLemmas
+pub mod VarintLaws

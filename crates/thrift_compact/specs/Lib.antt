@@ -4,3 +4,4 @@ pub mod Items
 pub mod Opens
 pub mod Runs
 pub mod States
+pub mod Grammar

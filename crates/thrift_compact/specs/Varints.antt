@@ -1,8 +1,8 @@
 -- Numbers of the compact protocol: ULEB128 varints and zigzag (Apache Thrift compact protocol, "Integer
 -- encoding"). A varint is the list of its groups of seven bits, the lowest group first; its bytes are the
 -- groups, and every byte but the last has its high bit set.
-use Rattle.std.specs.Prelude.{◌≡◌, ℕ, ℤ, pos, negsuc, ◌+◌, ◌*◌, ◌/◌, ◌%◌, ◌^◌, ◌<◌, ◌≤◌, ◌==◌, Bool, ◌&&◌, nat_lt, nat_le, List, [], ◌∷◌, ◌++◌, length, take, All, if◌then◌else◌, Option, None, Some, Result, Ok, Err}
-use Rattle.std.specs.List.{position}
+use Rattle.std.specs.Prelude.{◌≡◌, ℕ, ℤ, pos, negsuc, ◌+◌, ◌*◌, ◌/◌, ◌%◌, ◌^◌, ◌<◌, ◌≤◌, ◌==◌, Bool, ◌&&◌, nat_lt, nat_le, List, [], ◌∷◌, ◌++◌, length, take, if◌then◌else◌, Option, None, Some, Result, Ok, Err}
+use Rattle.std.specs.List.{position, AllByRecursion}
 use Rattle.thrift_compact.specs.declared.faults.ThriftFault.{ThriftFault}
 use Rattle.thrift_compact.specs.declared.faults.ThriftFaultCode.{ThriftFaultCode}
 use Rattle.thrift_compact.specs.declared.faults.ThriftFaultCode.TheVariants.{Truncated, BadVarint}
@@ -22,7 +22,7 @@ varint_number (g ∷ groups) = g + 128 * varint_number groups
 pub record IsVarint (limit : ℕ) (groups : List ℕ) : Type 0 where
   pub some : 0 < length groups
   pub ten : length groups ≤ 10
-  pub seven_bits : All (λ g. g < 128) groups
+  pub seven_bits : AllByRecursion (λ g. g < 128) groups
   pub within : varint_number groups ≤ limit
 
 -- the signed number that an unsigned one stands for: 0, -1, 1, -2, 2 and so on
