@@ -2,3 +2,4 @@ pub mod VarintLemmas
 pub mod StackLemmas
 pub mod RunLemmas
 pub mod VarintLaws
+pub mod ItemLaws
