@@ -3,3 +3,4 @@ pub mod StackLemmas
 pub mod RunLemmas
 pub mod VarintLaws
 pub mod ItemLaws
+pub mod ValueLaws

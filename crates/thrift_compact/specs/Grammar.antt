@@ -1,6 +1,6 @@
 -- The spellings of the compact protocol (Apache Thrift compact protocol): each form is a tree or a value, its
 -- bytes, and a fact that says which are valid. Numbers may be spelled with more groups than they need.
-use Rattle.std.specs.Prelude.{◌≡◌, ℕ, ℤ, pos, ◌+ℤ◌, ◌≤ℤ◌, ◌+◌, ◌-◌, ◌*◌, ◌^◌, ◌<◌, ◌≤◌, ◌⊎◌, Bool, MatchBool, List, [], ◌∷◌, ◌++◌, length, Option, None, Some}
+use Rattle.std.specs.Prelude.{◌≡◌, ℕ, ℤ, pos, ◌+ℤ◌, ◌≤ℤ◌, ◌+◌, ◌-◌, ◌*◌, ◌^◌, ◌<◌, ◌≤◌, ◌⊎◌, Bool, true, false, MatchBool, List, [], ◌∷◌, ◌++◌, length, Option, None, Some}
 use Rattle.std.specs.Int.{cast_signed, w8}
 use Rattle.thrift_compact.specs.declared.kinds.Kind.{Kind}
 use Rattle.thrift_compact.specs.declared.kinds.Kind.TheVariants as kind
@@ -88,3 +88,80 @@ pub record SpellsByteList (list text : List ℕ) : Type 0 where
   pub head : List ℕ
   pub spelled : SpellsVarint largest_size (length list) head
   pub text_is : text ≡ head ++ list
+
+-- the bytes are a value that holds no others. A truth value takes no byte in a field, and one as a member
+abbrev pub IsSimple : Bool → Kind → List ℕ → Type 0
+IsSimple member kind.True text = MatchBool member (length text ≡ 1) (text ≡ [])
+IsSimple member kind.False text = MatchBool member (length text ≡ 1) (text ≡ [])
+IsSimple member kind.I8 text = (z : ℤ) × SpellsNumber kind.I8 z text
+IsSimple member kind.I16 text = (z : ℤ) × SpellsNumber kind.I16 z text
+IsSimple member kind.I32 text = (z : ℤ) × SpellsNumber kind.I32 z text
+IsSimple member kind.I64 text = (z : ℤ) × SpellsNumber kind.I64 z text
+IsSimple member kind.Double text = length text ≡ 8
+IsSimple member kind.Binary text = (list : List ℕ) × SpellsByteList list text
+IsSimple member _ text = ⊥
+
+-- the bytes are the header of a list or set of n members of the kind first, or of a map of n keys and
+-- values, of the kinds first and next in turn
+abbrev pub HeadsMembers : Kind → Kind → Kind → ℕ → List ℕ → Type 0
+HeadsMembers kind.List first next n text = (next ≡ first) × SpellsListHeader (first, n) text
+HeadsMembers kind.Set first next n text = (next ≡ first) × SpellsListHeader (first, n) text
+HeadsMembers kind.Map first next n text =
+    ((n ≡ 0) × SpellsMapHeader None text)
+    ⊎ ((size : ℕ) × (n ≡ 2 * size) × SpellsMapHeader (Some (first, next, size)) text)
+HeadsMembers _ first next n text = ⊥
+
+-- a value: its bytes alone, or the members behind its header, or the fields of a struct. A field has the
+-- bytes of its header, its number, its kind and its value
+mutual
+  pub data Value : Type 0 where
+    simple : List ℕ → Value
+    sequence : List ℕ → Values → Value
+    structure : FieldList → Value
+
+  pub data Values : Type 0 where
+    no_values : Values
+    value : Value → Values → Values
+
+  pub data FieldList : Type 0 where
+    stop : FieldList
+    field : List ℕ → ℤ → Kind → Value → FieldList → FieldList
+
+-- the bytes of a value, of values one behind the other, and of a struct's fields with the 0 at their end
+abbrev mutual
+  pub print_value : Value → List ℕ
+  print_value (simple text) = text
+  print_value (sequence header values) = header ++ print_values values
+  print_value (structure fields) = print_fields fields
+
+  pub print_values : Values → List ℕ
+  print_values no_values = []
+  print_values (value v values) = print_value v ++ print_values values
+
+  pub print_fields : FieldList → List ℕ
+  print_fields stop = 0 ∷ []
+  print_fields (field header number k v fields) = header ++ (print_value v ++ print_fields fields)
+
+-- A value of this kind, where so many structs, lists, sets and maps are open around it, of which there may
+-- be 32 at most with those that it opens; n values of the kinds first and next in turn; and the fields
+-- behind the field with number last.
+abbrev mutual
+  pub IsValue : ℕ → Bool → Kind → Value → Type 0
+  IsValue already member k (simple text) = IsSimple member k text
+  IsValue already member k (sequence header values) =
+      (already < 32)
+      × (first : Kind) × (next : Kind) × (n : ℕ)
+      × HeadsMembers k first next n header × AreValues (already + 1) first next n values
+  IsValue already member k (structure fields) =
+      (already < 32) × (k ≡ kind.Struct) × AreFields (already + 1) (pos 0) fields
+
+  pub AreValues : ℕ → Kind → Kind → ℕ → Values → Type 0
+  AreValues already first next n no_values = n ≡ 0
+  AreValues already first next n (value v values) =
+      (0 < n) × IsValue already true first v × AreValues already next first (n - 1) values
+
+  pub AreFields : ℕ → ℤ → FieldList → Type 0
+  AreFields already last stop = Unit {0}
+  AreFields already last (field header number k v fields) =
+      SpellsHeader last (Some (number, k)) header
+      × IsValue already false k v × AreFields already number fields
