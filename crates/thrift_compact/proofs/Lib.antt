@@ -4,3 +4,4 @@ pub mod RunLemmas
 pub mod VarintLaws
 pub mod ItemLaws
 pub mod ValueLaws
+pub mod RunLaws

@@ -1,0 +1,93 @@
+-- What passing over a value answers is what the bytes spell, both ways, and there is one answer.
+use Rattle.std.proofs.Common.{◌≡◌, ℕ, zero, suc, ◌+◌, ◌-◌, ◌*◌, ◌<◌, ◌≤◌, ◌≢◌, ◌⊎◌, inl, inr, ℤ, pos, Bool, true, false, cond, nat_eq, nat_lt, nat_le, List, [], ◌∷◌, ◌++◌, length, drop, take, get_or, Option, Some, None, Result, Ok, Err, refl, ap, sym, ◌∙◌, subst, arith, add-one, append_assoc, append-nil}
+use Rattle.std.proofs.lemmas.Bool.{ltb-true, ltb-false, le-ltb, lt-ltb, leb-true, leb-false, le-leb, lt-leb}
+use Rattle.std.proofs.lemmas.Bool.Decides.{nat_tests}
+use Rattle.std.proofs.lemmas.List.{length-append, take-append-drop, drop_at}
+use Rattle.std.proofs.Math.Seq.{take-add}
+use Rattle.thrift_compact.specs.declared.faults.ThriftFault.{ThriftFault}
+use Rattle.thrift_compact.specs.declared.kinds.Kind.{Kind}
+use Rattle.thrift_compact.specs.declared.kinds.Kind.TheVariants as kind
+use Rattle.thrift_compact.specs.declared.stack.Open.{Open}
+use Rattle.thrift_compact.specs.declared.stack.Open.TheVariants.{Fields, Members}
+use Rattle.thrift_compact.specs.Opens.{ended, with_opened}
+use Rattle.thrift_compact.specs.Items.{Item, then_read, header_at, value_at, members}
+use Rattle.thrift_compact.specs.Runs.{placed, behind, value_step, field_step, step, Runs, nothing_open, faulty, goes_on, Passes}
+use Rattle.thrift_compact.specs.Grammar.{SpellsHeader, HeadsMembers, Value, Values, FieldList, simple, sequence, structure, no_values, value, stop, field, print_value, print_values, print_fields, IsValue, AreValues, AreFields}
+use Rattle.thrift_compact.proofs.VarintLaws.{IsBytes, guard_ok, ok_same}
+use Rattle.thrift_compact.proofs.ItemLaws.{then_ok, header_found, header_only}
+use Rattle.thrift_compact.proofs.ValueLaws.{Opened, value_found, simple_only, header_opens, struct_opens}
+
+-- there is one answer
+pub one_answer : {already : ℕ} {bytes : List ℕ} {a b : Result ℕ ThriftFault} {nest : List Open} {at : ℕ} → Runs already bytes a nest at → Runs already bytes b nest at → a ≡ b
+one_answer (nothing_open at e) (nothing_open _ d) = e ∙ sym d
+one_answer (faulty o nest at f s e) (faulty _ _ _ g t d) = cc
+one_answer (faulty o nest at f s e) (goes_on _ _ _ next taken t r) = absurd cc
+one_answer (goes_on o nest at next taken s r) (faulty _ _ _ g t d) = absurd cc
+one_answer {already = already} {bytes = bytes} {b = b} (goes_on o nest at next taken s r) (goes_on _ _ _ next' taken' t q) =
+    let same = ok_same (next', taken') (next, taken) t s in
+    let P : List Open × ℕ → Type 0 = λ p. Runs already bytes b p.0 (at + p.1) in
+    one_answer r (subst P same q)
+
+-- a value has just ended inside what is open: what must follow
+abbrev pub AfterEnd : ℕ → List Open → List ℕ → Type 0
+AfterEnd already [] text = text ≡ []
+AfterEnd already (Fields last ∷ nest) text =
+    (fields : FieldList) × (rest : List ℕ) × AreFields (already + length nest + 1) last fields
+    × AfterEnd already nest rest × (text ≡ print_fields fields ++ rest)
+AfterEnd already (Members first next n ∷ nest) text =
+    (values : Values) × (rest : List ℕ) × AreValues (already + length nest + 1) next first (n - 1) values
+    × AfterEnd already nest rest × (text ≡ print_values values ++ rest)
+
+-- what must follow where no value has begun
+abbrev pub Due : ℕ → List Open → List ℕ → Type 0
+Due already [] text = text ≡ []
+Due already (Fields last ∷ nest) text = AfterEnd already (Fields last ∷ nest) text
+Due already (Members first next n ∷ nest) text =
+    (v : Value) × (rest : List ℕ) × IsValue (already + length nest + 1) true first v
+    × AfterEnd already (Members first next n ∷ nest) rest × (text ≡ print_value v ++ rest)
+
+due_ended : (already : ℕ) (nest : List Open) (text : List ℕ) → Due already (ended nest) text → AfterEnd already nest text
+due_ended already [] text h = h
+due_ended already (Fields last ∷ nest) text h = h
+due_ended already (Members first next n ∷ nest) text h = go (nat_le n 1) refl h (due_ended already nest text)
+  where
+    go : (t : Bool) → nat_le n 1 ≡ t → Due already (cond t (ended nest) (Members next first (n - 1) ∷ nest)) text → (Due already (ended nest) text → AfterEnd already nest text) → AfterEnd already (Members first next n ∷ nest) text
+    go true t h ih =
+        let none : n - 1 ≡ 0 = let few : n ≤ 1 = leb-true _ _ t in omega arith in
+        (no_values, text, none, ih h, refl)
+    go false t h ih =
+        let some : 0 < n - 1 = let many : 1 < n = leb-false _ _ t in omega arith in
+        let after = h.3 in
+        (value h.0 after.0, after.1, (some, h.2, after.2), after.3, h.4 ∙ ap (λ z. print_value h.0 ++ z) after.4 ∙ sym (append_assoc (print_value h.0) (print_values after.0) after.1))
+
+-- a value that is opened or ended, and then what must follow
+value_due : (already depth : ℕ) (member : Bool) (k : Kind) (nest : List Open) (o : Option Open) (text rest : List ℕ) → depth ≡ already + length nest → Opened depth member k o text → Due already (with_opened o nest) rest → (v : Value) × (after : List ℕ) × IsValue depth member k v × AfterEnd already nest after × (text ++ rest ≡ print_value v ++ after)
+value_due already depth member k nest None text rest at h due =
+    (h.0, rest, h.1, due_ended already nest rest due, ap (λ z. z ++ rest) h.2)
+value_due already depth member k nest (Some (Fields last)) text rest at h due =
+    let e : already + length nest + 1 ≡ depth + 1 = omega (arith, at) in
+    let fields : AreFields (depth + 1) (pos 0) due.0 = rw (← h.2) (rw e at due.2) in
+    (structure due.0, due.1, (h.0, h.1, fields), due.3, ap (λ z. z ++ rest) h.3 ∙ due.4)
+value_due already depth member k nest (Some (Members first next n)) text rest at h due =
+    let e : already + length nest + 1 ≡ depth + 1 = omega (arith, at) in
+    let one : IsValue (depth + 1) true first due.0 = rw e at due.2 in
+    let after = due.3 in
+    let more : AreValues (depth + 1) next first (n - 1) after.0 = rw e at after.2 in
+    (sequence text (value due.0 after.0), after.1, (h.0, first, next, n, h.2, (h.1, one, more)), after.3,
+     ap (λ z. text ++ z) (due.4 ∙ ap (λ z. print_value due.0 ++ z) after.4 ∙ sym (append_assoc (print_value due.0) (print_values after.0) after.1))
+     ∙ sym (append_assoc text (print_value due.0 ++ print_values after.0) after.1))
+
+-- the same, behind a value's step
+value_step_due : (already : ℕ) (member : Bool) (k : Kind) (nest : List Open) (bytes : List ℕ) (next : List Open) (taken : ℕ) (rest : List ℕ) → IsBytes bytes → value_step already member k nest bytes ≡ Ok (next, taken) → Due already next rest → (v : Value) × (after : List ℕ) × IsValue (already + length nest) member k v × AfterEnd already nest after × (take taken bytes ++ rest ≡ print_value v ++ after)
+unfolding value_step
+value_step_due already member k nest bytes next taken rest fits e due =
+    let r = then_ok (value_at (already + length nest) member k bytes) _ _ e in
+    let same = ok_same _ _ refl r.2 in
+    let nest_is : with_opened r.0.0 nest ≡ next = ap (λ p. p.0) same in
+    let len : r.0.1 ≡ taken = ap (λ p. p.1) same in
+    built r.0.0 r.0.1 (value_found (already + length nest) member k bytes r.0.0 r.0.1 fits r.1) nest_is len
+  where
+    built : (o : Option Open) (n : ℕ) → Opened (already + length nest) member k o (take n bytes) → with_opened o nest ≡ next → n ≡ taken → (v : Value) × (after : List ℕ) × IsValue (already + length nest) member k v × AfterEnd already nest after × (take taken bytes ++ rest ≡ print_value v ++ after)
+    built o n opened nest_is len =
+        let P : List Open → Type 0 = λ y. Due already y rest in
+        rw (← len) (value_due already (already + length nest) member k nest o (take n bytes) rest refl opened (subst P (sym nest_is) due))
