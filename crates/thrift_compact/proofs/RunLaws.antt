@@ -2,7 +2,7 @@
 use Rattle.std.proofs.Common.{◌≡◌, ℕ, zero, suc, ◌+◌, ◌-◌, ◌*◌, ◌<◌, ◌≤◌, ◌≢◌, ◌⊎◌, inl, inr, ℤ, pos, Bool, true, false, cond, nat_eq, nat_lt, nat_le, List, [], ◌∷◌, ◌++◌, length, drop, take, get_or, Option, Some, None, Result, Ok, Err, refl, ap, sym, ◌∙◌, subst, arith, add-one, append_assoc, append-nil}
 use Rattle.std.proofs.lemmas.Bool.{ltb-true, ltb-false, le-ltb, lt-ltb, leb-true, leb-false, le-leb, lt-leb}
 use Rattle.std.proofs.lemmas.Bool.Decides.{nat_tests}
-use Rattle.std.proofs.lemmas.List.{length-append, take-append-drop, drop_at}
+use Rattle.std.proofs.lemmas.List.{length-append, take-append-drop, drop-drop, drop_at}
 use Rattle.std.proofs.Math.Seq.{take-add}
 use Rattle.thrift_compact.specs.declared.faults.ThriftFault.{ThriftFault}
 use Rattle.thrift_compact.specs.declared.kinds.Kind.{Kind}
@@ -91,3 +91,68 @@ value_step_due already member k nest bytes next taken rest fits e due =
     built o n opened nest_is len =
         let P : List Open → Type 0 = λ y. Due already y rest in
         rw (← len) (value_due already (already + length nest) member k nest o (take n bytes) rest refl opened (subst P (sym nest_is) due))
+
+bytes_behind : (bytes : List ℕ) (n : ℕ) → IsBytes bytes → IsBytes (drop n bytes)
+bytes_behind bytes zero fits = fits
+bytes_behind [] (suc n) fits = fits
+bytes_behind (b ∷ bytes) (suc n) fits = bytes_behind bytes n (λ i. fits (suc i))
+
+behind_ok : {X : Type 0} (k : ℕ) (item : Item X) (x : X) (n : ℕ) → behind k item ≡ Ok (x, n) → (m : ℕ) × (item ≡ Ok (x, m)) × (k + m ≡ n)
+behind_ok k (Ok y) x n e =
+    let same = ok_same _ _ refl e in
+    let value_is : y.0 ≡ x = ap (λ p. p.0) same in
+    (y.1, ap (λ z. Ok (z, y.1)) value_is, ap (λ p. p.1) same)
+behind_ok k (Err f) x n e = absurd cc
+
+-- the end of a struct, and then what must follow
+stop_due : (already : ℕ) (last : ℤ) (nest : List Open) (text rest : List ℕ) → SpellsHeader last None text → Due already (ended nest) rest → AfterEnd already (Fields last ∷ nest) (text ++ rest)
+stop_due already last nest text rest s due =
+    (stop, rest, tt, due_ended already nest rest due, ap (λ z. z ++ rest) s)
+
+-- a field, and then what must follow
+field_due : (already : ℕ) (last number : ℤ) (k : Kind) (nest : List Open) (header text : List ℕ) (v : Value) (after : List ℕ) → SpellsHeader last (Some (number, k)) header → IsValue (already + suc (length nest)) false k v → AfterEnd already (Fields number ∷ nest) after → text ≡ header ++ (print_value v ++ after) → AfterEnd already (Fields last ∷ nest) text
+field_due already last number k nest header text v after s valid more e =
+    let deep : already + suc (length nest) ≡ already + length nest + 1 = omega arith in
+    let inner : IsValue (already + length nest + 1) false k v = rw deep at valid in
+    (field header number k v more.0, more.1, (s, inner, more.2), more.3,
+     e ∙ ap (λ z. header ++ (print_value v ++ z)) more.4
+     ∙ ap (λ z. header ++ z) (sym (append_assoc (print_value v) (print_fields more.0) more.1))
+     ∙ sym (append_assoc header (print_value v ++ print_fields more.0) more.1))
+
+-- a step, and then what must follow
+step_due : (already : ℕ) (o : Open) (nest : List Open) (bytes : List ℕ) (next : List Open) (taken : ℕ) (rest : List ℕ) → IsBytes bytes → step already (o ∷ nest) bytes ≡ Ok (next, taken) → Due already next rest → Due already (o ∷ nest) (take taken bytes ++ rest)
+unfolding step
+step_due already (Members first then n) nest bytes next taken rest fits e due =
+    let d = value_step_due already true first (Members first then n ∷ nest) bytes next taken rest fits e due in
+    let deep : already + suc (length nest) ≡ already + length nest + 1 = omega arith in
+    (d.0, d.1, rw deep at d.2, d.3, d.4)
+step_due already (Fields last) nest bytes next taken rest fits e due =
+    let r = then_ok (header_at last bytes) _ _ e in
+    go r.0.0 r.0.1 (header_found last bytes r.0.0 r.0.1 fits r.1) r.2
+  where
+    go : (h : Option (ℤ × Kind)) (k : ℕ) → SpellsHeader last h (take k bytes) → field_step already nest bytes (h, k) ≡ Ok (next, taken) → AfterEnd already (Fields last ∷ nest) (take taken bytes ++ rest)
+    go None k s f =
+        let same = ok_same _ _ refl f in
+        let nest_is : ended nest ≡ next = ap (λ p. p.0) same in
+        let len : k ≡ taken = ap (λ p. p.1) same in
+        let P : List Open → Type 0 = λ y. Due already y rest in
+        rw (← len) (stop_due already last nest (take k bytes) rest s (subst P (sym nest_is) due))
+    go (Some f) k s g =
+        let b = behind_ok k (value_step already false f.1 (Fields f.0 ∷ nest) (drop k bytes)) next taken g in
+        let d = value_step_due already false f.1 (Fields f.0 ∷ nest) (drop k bytes) next b.0 rest (bytes_behind bytes k fits) b.1 due in
+        let text : take taken bytes ++ rest ≡ take k bytes ++ (print_value d.0 ++ d.1) =
+            ap (λ z. take z bytes ++ rest) (sym b.2) ∙ ap (λ z. z ++ rest) (take-add k b.0 bytes) ∙ append_assoc (take k bytes) (take b.0 (drop k bytes)) rest ∙ ap (λ z. take k bytes ++ z) d.4 in
+        field_due already last f.0 f.1 nest (take k bytes) (take taken bytes ++ rest) d.0 d.1 s d.2 d.3 text
+
+-- an Ok is spelled
+runs_found : {already : ℕ} {bytes : List ℕ} {answer : Result ℕ ThriftFault} {nest : List Open} {at : ℕ} → Runs already bytes answer nest at → (end : ℕ) → answer ≡ Ok end → IsBytes bytes → (text : List ℕ) × Due already nest text × (drop at bytes ≡ text ++ drop end bytes)
+runs_found {bytes = bytes} (nothing_open at e) end d fits =
+    let same : at ≡ end = ok_same at end e d in
+    ([], refl, ap (λ z. drop z bytes) same)
+runs_found (faulty o nest at f s e) end d fits = absurd cc
+runs_found {already = already} {bytes = bytes} (goes_on o nest at next taken s r) end d fits =
+    let ih = runs_found r end d fits in
+    (take taken (drop at bytes) ++ ih.0, step_due already o nest (drop at bytes) next taken ih.0 (bytes_behind bytes at fits) s ih.1,
+     sym (take-append-drop taken (drop at bytes))
+     ∙ ap (λ z. take taken (drop at bytes) ++ z) (drop-drop taken at bytes ∙ ih.2)
+     ∙ sym (append_assoc (take taken (drop at bytes)) ih.0 (drop end bytes)))
