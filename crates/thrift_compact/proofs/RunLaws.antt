@@ -11,7 +11,7 @@ use Rattle.thrift_compact.specs.declared.stack.Open.{Open}
 use Rattle.thrift_compact.specs.declared.stack.Open.TheVariants.{Fields, Members}
 use Rattle.thrift_compact.specs.Opens.{ended, with_opened}
 use Rattle.thrift_compact.specs.Items.{Item, then_read, header_at, value_at, members}
-use Rattle.thrift_compact.specs.Runs.{placed, behind, value_step, field_step, step, Runs, nothing_open, faulty, goes_on, Passes}
+use Rattle.thrift_compact.specs.Runs.{placed, behind, value_step, field_step, step, Runs, nothing_open, faulty, goes_on, Passes, PassesFrom}
 use Rattle.thrift_compact.specs.Grammar.{SpellsHeader, HeadsMembers, Value, Values, FieldList, simple, sequence, structure, no_values, value, stop, field, print_value, print_values, print_fields, IsValue, AreValues, AreFields}
 use Rattle.thrift_compact.proofs.VarintLaws.{IsBytes, guard_ok, ok_same}
 use Rattle.thrift_compact.proofs.ItemLaws.{then_ok, header_found, header_only}
@@ -156,3 +156,49 @@ runs_found {already = already} {bytes = bytes} (goes_on o nest at next taken s r
      sym (take-append-drop taken (drop at bytes))
      ∙ ap (λ z. take taken (drop at bytes) ++ z) (drop-drop taken at bytes ∙ ih.2)
      ∙ sym (append_assoc (take taken (drop at bytes)) ih.0 (drop end bytes)))
+
+-- a whole value is spelled, and what follows it is what is left
+pub passes_found : (already : ℕ) (member : Bool) (k : Kind) (bytes : List ℕ) (at end : ℕ) → IsBytes bytes → Passes already member k bytes at (Ok end) → (v : Value) × IsValue already member k v × (drop at bytes ≡ print_value v ++ drop end bytes)
+passes_found already member k bytes at end fits p = go (value_at already member k (drop at bytes)) refl p
+  where
+    depth : already ≡ already + length {A = Open} []
+    depth = omega arith
+
+    built : (o : Option Open) (taken : ℕ) → Opened already member k o (take taken (drop at bytes)) → (text : List ℕ) → Due already (with_opened o []) text → drop (at + taken) bytes ≡ text ++ drop end bytes → (v : Value) × IsValue already member k v × (drop at bytes ≡ print_value v ++ drop end bytes)
+    built o taken opened text due e =
+        let d = value_due already already member k [] o (take taken (drop at bytes)) text depth opened due in
+        let none : d.1 ≡ [] = d.3 in
+        (d.0, d.2,
+         sym (take-append-drop taken (drop at bytes))
+         ∙ ap (λ z. take taken (drop at bytes) ++ z) (drop-drop taken at bytes ∙ e)
+         ∙ sym (append_assoc (take taken (drop at bytes)) text (drop end bytes))
+         ∙ ap (λ z. z ++ drop end bytes) (d.4 ∙ ap (λ z. print_value d.0 ++ z) none ∙ append-nil (print_value d.0)))
+
+    go : (r : Item (Option Open)) → value_at already member k (drop at bytes) ≡ r → PassesFrom already bytes at (Ok end) r → (v : Value) × IsValue already member k v × (drop at bytes ≡ print_value v ++ drop end bytes)
+    go (Err f) e p = absurd cc
+    go (Ok (None, taken)) e p =
+        let place : end ≡ at + taken = ok_same end (at + taken) refl p in
+        built None taken (value_found already member k (drop at bytes) None taken (bytes_behind bytes at fits) e) [] refl (ap (λ z. drop z bytes) (sym place))
+    go (Ok (Some o, taken)) e p =
+        let r = runs_found p end refl fits in
+        built (Some o) taken (value_found already member k (drop at bytes) (Some o) taken (bytes_behind bytes at fits) e) r.0 r.1 r.2
+
+-- there is one answer
+pub passes_one : (already : ℕ) (member : Bool) (k : Kind) (bytes : List ℕ) (at : ℕ) (a b : Result ℕ ThriftFault) → Passes already member k bytes at a → Passes already member k bytes at b → a ≡ b
+passes_one already member k bytes at a b p q = go (value_at already member k (drop at bytes)) p q
+  where
+    go : (r : Item (Option Open)) → PassesFrom already bytes at a r → PassesFrom already bytes at b r → a ≡ b
+    go (Err f) p q = p ∙ sym q
+    go (Ok (None, taken)) p q = p ∙ sym q
+    go (Ok (Some o, taken)) p q = one_answer p q
+
+-- behind the first of the members that a header opens
+ended_members : (first next : Kind) (n : ℕ) (nest : List Open) → 0 < n → ended (Members first next n ∷ nest) ≡ with_opened (members next first (n - 1)) nest
+ended_members first next n nest some = go (nat_le n 1) refl
+  where
+    go : (t : Bool) → nat_le n 1 ≡ t → cond t (ended nest) (Members next first (n - 1) ∷ nest) ≡ with_opened (members next first (n - 1)) nest
+    go true h = let none : nat_eq (n - 1) 0 ≡ true = let few = leb-true _ _ h in grind (arith, nat_tests) in rw none refl
+    go false h = let more : nat_eq (n - 1) 0 ≡ false = let many = leb-false _ _ h in grind (arith, nat_tests) in rw more refl
+
+opens_some : (first next : Kind) (n : ℕ) → 0 < n → members first next n ≡ Some (Members first next n)
+opens_some first next n some = let more : nat_eq n 0 ≡ false = grind (arith, nat_tests) in rw more refl

@@ -41,15 +41,17 @@ pub data Runs (already : ℕ) (bytes : List ℕ) (answer : Result ℕ ThriftFaul
   faulty : (o : Open) (nest : List Open) (at : ℕ) (f : ThriftFault) → step already (o ∷ nest) (drop at bytes) ≡ Err f → answer ≡ Err (placed at f) → Runs already bytes answer (o ∷ nest) at
   goes_on : (o : Open) (nest : List Open) (at : ℕ) (next : List Open) (taken : ℕ) → step already (o ∷ nest) (drop at bytes) ≡ Ok (next, taken) → Runs already bytes answer next (at + taken) → Runs already bytes answer (o ∷ nest) at
 
+-- a value is passed over from a place on, where its front was read so
+abbrev pub PassesFrom : ℕ → List ℕ → ℕ → Result ℕ ThriftFault → Item (Option Open) → Type 0
+PassesFrom already bytes at answer (Err f) = answer ≡ Err (placed at f)
+PassesFrom already bytes at answer (Ok (None, taken)) = answer ≡ Ok (at + taken)
+PassesFrom already bytes at answer (Ok (Some o, taken)) =
+    Runs already bytes answer (o ∷ []) (at + taken)
+
 -- a value of a kind is passed over from a place on
 abbrev pub Passes : ℕ → Bool → Kind → List ℕ → ℕ → Result ℕ ThriftFault → Type 0
 Passes already member kind bytes at answer =
     PassesFrom already bytes at answer (value_at already member kind (drop at bytes))
-  where
-    PassesFrom : ℕ → List ℕ → ℕ → Result ℕ ThriftFault → Item (Option Open) → Type 0
-    PassesFrom already bytes at answer (Err f) = answer ≡ Err (placed at f)
-    PassesFrom already bytes at answer (Ok (None, taken)) = answer ≡ Ok (at + taken)
-    PassesFrom already bytes at answer (Ok (Some o, taken)) = Runs already bytes answer (o ∷ []) (at + taken)
 
 -- members come before the first field of a struct that they open
 abbrev pub weight : List Open → ℕ

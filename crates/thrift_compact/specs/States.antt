@@ -81,13 +81,15 @@ skipped s (Err f) = (Err f, faulted s f)
 abbrev pub SkipsTo : Kind → State → Result ℕ ThriftFault → Type 0
 SkipsTo kind s to = Passes (length s.nesting) (in_members s.nesting) kind s.bytes s.at to
 
--- the answer of passing over a value of a kind
+-- passing over a value of a kind answers this, unless a fault came before
+abbrev pub SkipGives : Option ThriftFault → Kind → State → Result (Unit {0}) ThriftFault × State → Type 0
+SkipGives (Some f) kind s given = given ≡ (Err f, s)
+SkipGives None kind s given =
+    (to : Result ℕ ThriftFault) × SkipsTo kind s to × (given ≡ skipped s to)
+
+-- passing over a value of a kind answers this
 abbrev pub SkipAnswer : Kind → State → Result (Unit {0}) ThriftFault × State → Type 0
 SkipAnswer kind s given = SkipGives s.fault kind s given
-  where
-    SkipGives : Option ThriftFault → Kind → State → Result (Unit {0}) ThriftFault × State → Type 0
-    SkipGives (Some f) kind s given = given ≡ (Err f, s)
-    SkipGives None kind s given = (to : Result ℕ ThriftFault) × SkipsTo kind s to × (given ≡ skipped s to)
 
 -- the bytes that an answer lends
 abbrev pub given_bytes : {R : Type 0} → (R → List ℕ) → Result R ThriftFault → Result (List ℕ) ThriftFault
