@@ -202,3 +202,90 @@ ended_members first next n nest some = go (nat_le n 1) refl
 
 opens_some : (first next : Kind) (n : ℕ) → 0 < n → members first next n ≡ Some (Members first next n)
 opens_some first next n some = let more : nat_eq n 0 ≡ false = grind (arith, nat_tests) in rw more refl
+
+-- a value's step, behind which the answer comes
+record Stepped (already : ℕ) (bytes : List ℕ) (answer : Result ℕ ThriftFault) (member : Bool) (k : Kind) (nest : List Open) (at : ℕ) : Type 0 where
+  next : List Open
+  taken : ℕ
+  step_is : value_step already member k nest (drop at bytes) ≡ Ok (next, taken)
+  runs : Runs already bytes answer next (at + taken)
+
+value_stepped : (already depth : ℕ) (bytes : List ℕ) (answer : Result ℕ ThriftFault) (member : Bool) (k : Kind) (nest : List Open) (at : ℕ) (o : Option Open) (taken : ℕ) → depth ≡ already + length nest → value_at depth member k (drop at bytes) ≡ Ok (o, taken) → Runs already bytes answer (with_opened o nest) (at + taken) → Stepped already bytes answer member k nest at
+unfolding value_step
+value_stepped already depth bytes answer member k nest at o taken deep e r =
+    record { next = with_opened o nest; taken = taken; step_is = rw (← deep, e) refl; runs = r }
+
+moved_on : (bytes front rest : List ℕ) (at : ℕ) → drop at bytes ≡ front ++ rest → drop (at + length front) bytes ≡ rest
+moved_on bytes front rest at e = sym (drop-drop (length front) at bytes) ∙ ap (λ z. drop (length front) z) e ∙ drop_at front rest (length front) refl
+
+member_goes : (already : ℕ) (bytes : List ℕ) (answer : Result ℕ ThriftFault) (first then : Kind) (n : ℕ) (nest : List Open) (at : ℕ) → Stepped already bytes answer true first (Members first then n ∷ nest) at → Runs already bytes answer (Members first then n ∷ nest) at
+unfolding step
+member_goes already bytes answer first then n nest at s =
+    goes_on (Members first then n) nest at s.next s.taken s.step_is s.runs
+
+field_goes : (already : ℕ) (bytes : List ℕ) (answer : Result ℕ ThriftFault) (last number : ℤ) (k : Kind) (nest : List Open) (at len : ℕ) → header_at last (drop at bytes) ≡ Ok (Some (number, k), len) → Stepped already bytes answer false k (Fields number ∷ nest) (at + len) → Runs already bytes answer (Fields last ∷ nest) at
+unfolding step
+field_goes already bytes answer last number k nest at len e s =
+    let place : at + len + s.taken ≡ at + (len + s.taken) = omega arith in
+    let P : ℕ → Type 0 = λ z. Runs already bytes answer s.next z in
+    goes_on (Fields last) nest at s.next (len + s.taken) (rw (e, drop-drop len at bytes, s.step_is) refl) (subst P place s.runs)
+
+stop_goes : (already : ℕ) (bytes : List ℕ) (answer : Result ℕ ThriftFault) (last : ℤ) (nest : List Open) (at : ℕ) → header_at last (drop at bytes) ≡ Ok (None, 1) → Runs already bytes answer (ended nest) (at + 1) → Runs already bytes answer (Fields last ∷ nest) at
+unfolding step
+stop_goes already bytes answer last nest at e r = goes_on (Fields last) nest at (ended nest) 1 (rw e refl) r
+
+mutual
+  value_runs : (v : Value) (already depth : ℕ) (bytes : List ℕ) (answer : Result ℕ ThriftFault) (member : Bool) (k : Kind) (nest : List Open) (at : ℕ) (rest : List ℕ) → depth ≡ already + length nest → IsValue depth member k v → drop at bytes ≡ print_value v ++ rest → Runs already bytes answer (ended nest) (at + length (print_value v)) → Stepped already bytes answer member k nest at
+  value_runs (simple text) already depth bytes answer member k nest at rest deep valid e r =
+      value_stepped already depth bytes answer member k nest at None (length text) deep (ap (λ z. value_at depth member k z) e ∙ simple_only depth member k text rest valid) r
+  value_runs (sequence header values) already depth bytes answer member k nest at rest deep valid e r =
+      let e' : drop at bytes ≡ header ++ (print_values values ++ rest) = e ∙ append_assoc header (print_values values) rest in
+      let deeper : depth + 1 ≡ already + length nest + 1 = omega arith in
+      let place : at + length (header ++ print_values values) ≡ at + length header + length (print_values values) = omega (arith, length-append header (print_values values)) in
+      value_stepped already depth bytes answer member k nest at (members valid.1 valid.2 valid.3) (length header) deep
+        (ap (λ z. value_at depth member k z) e' ∙ header_opens depth member k valid.1 valid.2 valid.3 header (print_values values ++ rest) valid.0 valid.4)
+        (values_run values already (depth + 1) bytes answer valid.1 valid.2 valid.3 nest (at + length header) rest deeper valid.5 (moved_on bytes header (print_values values ++ rest) at e') (let P : ℕ → Type 0 = λ z. Runs already bytes answer (ended nest) z in subst P place r))
+  value_runs (structure fields) already depth bytes answer member k nest at rest deep valid e r =
+      let deeper : depth + 1 ≡ already + length nest + 1 = omega arith in
+      let here : at ≡ at + 0 = omega arith in
+      let P : ℕ → Type 0 = λ z. Runs already bytes answer (Fields (pos 0) ∷ nest) z in
+      value_stepped already depth bytes answer member k nest at (Some (Fields (pos 0))) 0 deep
+        (ap (λ z. value_at depth member z (drop at bytes)) valid.1 ∙ struct_opens depth member (drop at bytes) valid.0)
+        (subst P here (fields_run fields already (depth + 1) bytes answer (pos 0) nest at rest deeper valid.2 e r))
+
+  values_run : (vs : Values) (already depth : ℕ) (bytes : List ℕ) (answer : Result ℕ ThriftFault) (first then : Kind) (n : ℕ) (nest : List Open) (at : ℕ) (rest : List ℕ) → depth ≡ already + length nest + 1 → AreValues depth first then n vs → drop at bytes ≡ print_values vs ++ rest → Runs already bytes answer (ended nest) (at + length (print_values vs)) → Runs already bytes answer (with_opened (members first then n) nest) at
+  values_run no_values already depth bytes answer first then n nest at rest deep valid e r =
+      let here : at + 0 ≡ at = omega arith in
+      let P : ℕ → Type 0 = λ z. Runs already bytes answer (ended nest) z in
+      let none : nat_eq n 0 ≡ true = grind (arith, nat_tests) in
+      rw none (subst P here r)
+  values_run (value v vs) already depth bytes answer first then n nest at rest deep valid e r =
+      let e' : drop at bytes ≡ print_value v ++ (print_values vs ++ rest) = e ∙ append_assoc (print_value v) (print_values vs) rest in
+      let deeper : depth ≡ already + suc (length nest) = omega arith in
+      let place : at + length (print_value v ++ print_values vs) ≡ at + length (print_value v) + length (print_values vs) = omega (arith, length-append (print_value v) (print_values vs)) in
+      let P : ℕ → Type 0 = λ z. Runs already bytes answer (ended nest) z in
+      let Q : List Open → Type 0 = λ z. Runs already bytes answer z (at + length (print_value v)) in
+      let more = values_run vs already depth bytes answer then first (n - 1) nest (at + length (print_value v)) rest deep valid.2 (moved_on bytes (print_value v) (print_values vs ++ rest) at e') (subst P place r) in
+      rw (opens_some first then n valid.0)
+        (member_goes already bytes answer first then n nest at
+          (value_runs v already depth bytes answer true first (Members first then n ∷ nest) at (print_values vs ++ rest) deeper valid.1 e' (subst Q (sym (ended_members first then n nest valid.0)) more)))
+
+  fields_run : (fs : FieldList) (already depth : ℕ) (bytes : List ℕ) (answer : Result ℕ ThriftFault) (last : ℤ) (nest : List Open) (at : ℕ) (rest : List ℕ) → depth ≡ already + length nest + 1 → AreFields depth last fs → drop at bytes ≡ print_fields fs ++ rest → Runs already bytes answer (ended nest) (at + length (print_fields fs)) → Runs already bytes answer (Fields last ∷ nest) at
+  fields_run stop already depth bytes answer last nest at rest deep valid e r =
+      stop_goes already bytes answer last nest at (ap (λ z. header_at last z) e ∙ header_only last None (0 ∷ []) rest refl) r
+  fields_run (field header number k v fs) already depth bytes answer last nest at rest deep valid e r =
+      let e' : drop at bytes ≡ header ++ (print_value v ++ (print_fields fs ++ rest)) =
+          e ∙ append_assoc header (print_value v ++ print_fields fs) rest ∙ ap (λ z. header ++ z) (append_assoc (print_value v) (print_fields fs) rest) in
+      let inner = moved_on bytes header (print_value v ++ (print_fields fs ++ rest)) at e' in
+      let deeper : depth ≡ already + suc (length nest) = omega arith in
+      let place : at + length (header ++ (print_value v ++ print_fields fs)) ≡ at + length header + length (print_value v) + length (print_fields fs) = omega (arith, length-append header (print_value v ++ print_fields fs), length-append (print_value v) (print_fields fs)) in
+      let P : ℕ → Type 0 = λ z. Runs already bytes answer (ended nest) z in
+      let more = fields_run fs already depth bytes answer number nest (at + length header + length (print_value v)) rest deep valid.2 (moved_on bytes (print_value v) (print_fields fs ++ rest) (at + length header) inner) (subst P place r) in
+      field_goes already bytes answer last number k nest at (length header)
+        (ap (λ z. header_at last z) e' ∙ header_only last (Some (number, k)) header (print_value v ++ (print_fields fs ++ rest)) valid.0)
+        (value_runs v already depth bytes answer false k (Fields number ∷ nest) (at + length header) (print_fields fs ++ rest) deeper valid.1 inner more)
+
+-- a value that is spelled is passed over
+pub passes_only : (already : ℕ) (member : Bool) (k : Kind) (bytes : List ℕ) (at : ℕ) (v : Value) (rest : List ℕ) → IsValue already member k v → drop at bytes ≡ print_value v ++ rest → Passes already member k bytes at (Ok (at + length (print_value v)))
+unfolding value_step
+passes_only already member k bytes at v rest valid e = ?
