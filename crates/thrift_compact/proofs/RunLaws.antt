@@ -285,7 +285,21 @@ mutual
         (ap (λ z. header_at last z) e' ∙ header_only last (Some (number, k)) header (print_value v ++ (print_fields fs ++ rest)) valid.0)
         (value_runs v already depth bytes answer false k (Fields number ∷ nest) (at + length header) (print_fields fs ++ rest) deeper valid.1 inner more)
 
+ended_answer : (already : ℕ) (bytes : List ℕ) (answer : Result ℕ ThriftFault) (at : ℕ) → Runs already bytes answer [] at → answer ≡ Ok at
+ended_answer already bytes answer at (nothing_open _ e) = e
+
 -- a value that is spelled is passed over
 pub passes_only : (already : ℕ) (member : Bool) (k : Kind) (bytes : List ℕ) (at : ℕ) (v : Value) (rest : List ℕ) → IsValue already member k v → drop at bytes ≡ print_value v ++ rest → Passes already member k bytes at (Ok (at + length (print_value v)))
 unfolding value_step
-passes_only already member k bytes at v rest valid e = ?
+passes_only already member k bytes at v rest valid e =
+    let depth : already ≡ already + length {A = Open} [] = omega arith in
+    let s = value_runs v already already bytes (Ok (at + length (print_value v))) member k [] at rest depth valid e (nothing_open (at + length (print_value v)) refl) in
+    let r = then_ok (value_at (already + length {A = Open} []) member k (drop at bytes)) _ _ s.step_is in
+    let same = ok_same _ _ refl r.2 in
+    let here : value_at already member k (drop at bytes) ≡ Ok (r.0.0, r.0.1) = ap (λ z. value_at z member k (drop at bytes)) depth ∙ r.1 in
+    let P : List Open × ℕ → Type 0 = λ p. Runs already bytes (Ok (at + length (print_value v))) p.0 (at + p.1) in
+    built r.0.0 r.0.1 here (subst P (sym same) s.runs)
+  where
+    built : (o : Option Open) (taken : ℕ) → value_at already member k (drop at bytes) ≡ Ok (o, taken) → Runs already bytes (Ok (at + length (print_value v))) (with_opened o []) (at + taken) → Passes already member k bytes at (Ok (at + length (print_value v)))
+    built None taken e r = rw e (ended_answer already bytes (Ok (at + length (print_value v))) (at + taken) r)
+    built (Some o) taken e r = rw e r
