@@ -14,7 +14,8 @@ use Rattle.thrift_compact.specs.Codes.{kind_code, kind_of}
 use Rattle.thrift_compact.specs.Varints.{varint_at, zigzag}
 use Rattle.thrift_compact.specs.Items.{then_read, byte_at, signed_at, number_at, number_after, field_of, header_at, list_of, list_header_at, map_of, map_kinds_at, map_header_at, byte_list_at, largest_size}
 use Rattle.thrift_compact.specs.Grammar.{SpellsVarint, SpellsSigned, SpellsByte, SpellsNumber, IsShortHeader, IsLongHeader, SpellsHeader, IsShortList, IsLongList, SpellsListHeader, IsMapHeader, SpellsMapHeader, SpellsByteList}
-use Rattle.thrift_compact.proofs.VarintLaws.{IsBytes, guard_ok, ok_same, varint_found, varint_only}
+use Rattle.thrift_compact.specs.Varints.{IsBytes}
+use Rattle.thrift_compact.proofs.VarintLaws.{guard_ok, ok_same, varint_found, varint_only}
 
 -- what an Ok behind a reading came from
 pub then_ok : {A B : Type 0} (r : Result A ThriftFault) (next : A → Result B ThriftFault) (y : B) → then_read r next ≡ Ok y → (x : A) × (r ≡ Ok x) × (next x ≡ Ok y)

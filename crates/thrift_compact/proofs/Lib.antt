@@ -5,3 +5,4 @@ pub mod VarintLaws
 pub mod ItemLaws
 pub mod ValueLaws
 pub mod RunLaws
+pub mod Clauses

@@ -13,7 +13,8 @@ use Rattle.thrift_compact.specs.Opens.{ended, with_opened}
 use Rattle.thrift_compact.specs.Items.{Item, then_read, header_at, value_at, members}
 use Rattle.thrift_compact.specs.Runs.{placed, behind, value_step, field_step, step, Runs, nothing_open, faulty, goes_on, Passes, PassesFrom}
 use Rattle.thrift_compact.specs.Grammar.{SpellsHeader, HeadsMembers, Value, Values, FieldList, simple, sequence, structure, no_values, value, stop, field, print_value, print_values, print_fields, IsValue, AreValues, AreFields}
-use Rattle.thrift_compact.proofs.VarintLaws.{IsBytes, guard_ok, ok_same}
+use Rattle.thrift_compact.specs.Varints.{IsBytes}
+use Rattle.thrift_compact.proofs.VarintLaws.{guard_ok, ok_same}
 use Rattle.thrift_compact.proofs.ItemLaws.{then_ok, header_found, header_only}
 use Rattle.thrift_compact.proofs.ValueLaws.{Opened, value_found, simple_only, header_opens, struct_opens}
 
@@ -72,10 +73,14 @@ value_due already depth member k nest (Some (Members first next n)) text rest at
     let e : already + length nest + 1 ≡ depth + 1 = omega (arith, at) in
     let one : IsValue (depth + 1) true first due.0 = rw e at due.2 in
     let after = due.3 in
-    let more : AreValues (depth + 1) next first (n - 1) after.0 = rw e at after.2 in
-    (sequence text (value due.0 after.0), after.1, (h.0, first, next, n, h.2, (h.1, one, more)), after.3,
-     ap (λ z. text ++ z) (due.4 ∙ ap (λ z. print_value due.0 ++ z) after.4 ∙ sym (append_assoc (print_value due.0) (print_values after.0) after.1))
-     ∙ sym (append_assoc text (print_value due.0 ++ print_values after.0) after.1))
+    let more : AreValues (depth + 1) next first (n - 1) after.0 = rw e at after.2 in (
+      sequence text (value due.0 after.0),
+      after.1,
+      (h.0, first, next, n, h.2, (h.1, one, more)),
+      after.3,
+      ap (λ z. text ++ z) (due.4 ∙ ap (λ z. print_value due.0 ++ z) after.4 ∙ sym (append_assoc (print_value due.0) (print_values after.0) after.1))
+          ∙ sym (append_assoc text (print_value due.0 ++ print_values after.0) after.1),
+    )
 
 -- the same, behind a value's step
 value_step_due : (already : ℕ) (member : Bool) (k : Kind) (nest : List Open) (bytes : List ℕ) (next : List Open) (taken : ℕ) (rest : List ℕ) → IsBytes bytes → value_step already member k nest bytes ≡ Ok (next, taken) → Due already next rest → (v : Value) × (after : List ℕ) × IsValue (already + length nest) member k v × AfterEnd already nest after × (take taken bytes ++ rest ≡ print_value v ++ after)
@@ -113,11 +118,15 @@ stop_due already last nest text rest s due =
 field_due : (already : ℕ) (last number : ℤ) (k : Kind) (nest : List Open) (header text : List ℕ) (v : Value) (after : List ℕ) → SpellsHeader last (Some (number, k)) header → IsValue (already + suc (length nest)) false k v → AfterEnd already (Fields number ∷ nest) after → text ≡ header ++ (print_value v ++ after) → AfterEnd already (Fields last ∷ nest) text
 field_due already last number k nest header text v after s valid more e =
     let deep : already + suc (length nest) ≡ already + length nest + 1 = omega arith in
-    let inner : IsValue (already + length nest + 1) false k v = rw deep at valid in
-    (field header number k v more.0, more.1, (s, inner, more.2), more.3,
-     e ∙ ap (λ z. header ++ (print_value v ++ z)) more.4
-     ∙ ap (λ z. header ++ z) (sym (append_assoc (print_value v) (print_fields more.0) more.1))
-     ∙ sym (append_assoc header (print_value v ++ print_fields more.0) more.1))
+    let inner : IsValue (already + length nest + 1) false k v = rw deep at valid in (
+      field header number k v more.0,
+      more.1,
+      (s, inner, more.2),
+      more.3,
+      e ∙ ap (λ z. header ++ (print_value v ++ z)) more.4
+          ∙ ap (λ z. header ++ z) (sym (append_assoc (print_value v) (print_fields more.0) more.1))
+          ∙ sym (append_assoc header (print_value v ++ print_fields more.0) more.1),
+    )
 
 -- a step, and then what must follow
 step_due : (already : ℕ) (o : Open) (nest : List Open) (bytes : List ℕ) (next : List Open) (taken : ℕ) (rest : List ℕ) → IsBytes bytes → step already (o ∷ nest) bytes ≡ Ok (next, taken) → Due already next rest → Due already (o ∷ nest) (take taken bytes ++ rest)
@@ -141,7 +150,7 @@ step_due already (Fields last) nest bytes next taken rest fits e due =
         let b = behind_ok k (value_step already false f.1 (Fields f.0 ∷ nest) (drop k bytes)) next taken g in
         let d = value_step_due already false f.1 (Fields f.0 ∷ nest) (drop k bytes) next b.0 rest (bytes_behind bytes k fits) b.1 due in
         let text : take taken bytes ++ rest ≡ take k bytes ++ (print_value d.0 ++ d.1) =
-            ap (λ z. take z bytes ++ rest) (sym b.2) ∙ ap (λ z. z ++ rest) (take-add k b.0 bytes) ∙ append_assoc (take k bytes) (take b.0 (drop k bytes)) rest ∙ ap (λ z. take k bytes ++ z) d.4 in
+        ap (λ z. take z bytes ++ rest) (sym b.2) ∙ ap (λ z. z ++ rest) (take-add k b.0 bytes) ∙ append_assoc (take k bytes) (take b.0 (drop k bytes)) rest ∙ ap (λ z. take k bytes ++ z) d.4 in
         field_due already last f.0 f.1 nest (take k bytes) (take taken bytes ++ rest) d.0 d.1 s d.2 d.3 text
 
 -- an Ok is spelled
@@ -151,11 +160,13 @@ runs_found {bytes = bytes} (nothing_open at e) end d fits =
     ([], refl, ap (λ z. drop z bytes) same)
 runs_found (faulty o nest at f s e) end d fits = absurd cc
 runs_found {already = already} {bytes = bytes} (goes_on o nest at next taken s r) end d fits =
-    let ih = runs_found r end d fits in
-    (take taken (drop at bytes) ++ ih.0, step_due already o nest (drop at bytes) next taken ih.0 (bytes_behind bytes at fits) s ih.1,
-     sym (take-append-drop taken (drop at bytes))
-     ∙ ap (λ z. take taken (drop at bytes) ++ z) (drop-drop taken at bytes ∙ ih.2)
-     ∙ sym (append_assoc (take taken (drop at bytes)) ih.0 (drop end bytes)))
+    let ih = runs_found r end d fits in (
+      take taken (drop at bytes) ++ ih.0,
+      step_due already o nest (drop at bytes) next taken ih.0 (bytes_behind bytes at fits) s ih.1,
+      sym (take-append-drop taken (drop at bytes))
+          ∙ ap (λ z. take taken (drop at bytes) ++ z) (drop-drop taken at bytes ∙ ih.2)
+          ∙ sym (append_assoc (take taken (drop at bytes)) ih.0 (drop end bytes)),
+    )
 
 -- a whole value is spelled, and what follows it is what is left
 pub passes_found : (already : ℕ) (member : Bool) (k : Kind) (bytes : List ℕ) (at end : ℕ) → IsBytes bytes → Passes already member k bytes at (Ok end) → (v : Value) × IsValue already member k v × (drop at bytes ≡ print_value v ++ drop end bytes)
@@ -167,12 +178,14 @@ passes_found already member k bytes at end fits p = go (value_at already member 
     built : (o : Option Open) (taken : ℕ) → Opened already member k o (take taken (drop at bytes)) → (text : List ℕ) → Due already (with_opened o []) text → drop (at + taken) bytes ≡ text ++ drop end bytes → (v : Value) × IsValue already member k v × (drop at bytes ≡ print_value v ++ drop end bytes)
     built o taken opened text due e =
         let d = value_due already already member k [] o (take taken (drop at bytes)) text depth opened due in
-        let none : d.1 ≡ [] = d.3 in
-        (d.0, d.2,
-         sym (take-append-drop taken (drop at bytes))
-         ∙ ap (λ z. take taken (drop at bytes) ++ z) (drop-drop taken at bytes ∙ e)
-         ∙ sym (append_assoc (take taken (drop at bytes)) text (drop end bytes))
-         ∙ ap (λ z. z ++ drop end bytes) (d.4 ∙ ap (λ z. print_value d.0 ++ z) none ∙ append-nil (print_value d.0)))
+        let none : d.1 ≡ [] = d.3 in (
+          d.0,
+          d.2,
+          sym (take-append-drop taken (drop at bytes))
+              ∙ ap (λ z. take taken (drop at bytes) ++ z) (drop-drop taken at bytes ∙ e)
+              ∙ sym (append_assoc (take taken (drop at bytes)) text (drop end bytes))
+              ∙ ap (λ z. z ++ drop end bytes) (d.4 ∙ ap (λ z. print_value d.0 ++ z) none ∙ append-nil (print_value d.0)),
+        )
 
     go : (r : Item (Option Open)) → value_at already member k (drop at bytes) ≡ r → PassesFrom already bytes at (Ok end) r → (v : Value) × IsValue already member k v × (drop at bytes ≡ print_value v ++ drop end bytes)
     go (Err f) e p = absurd cc
@@ -243,15 +256,15 @@ mutual
       let deeper : depth + 1 ≡ already + length nest + 1 = omega arith in
       let place : at + length (header ++ print_values values) ≡ at + length header + length (print_values values) = omega (arith, length-append header (print_values values)) in
       value_stepped already depth bytes answer member k nest at (members valid.1 valid.2 valid.3) (length header) deep
-        (ap (λ z. value_at depth member k z) e' ∙ header_opens depth member k valid.1 valid.2 valid.3 header (print_values values ++ rest) valid.0 valid.4)
-        (values_run values already (depth + 1) bytes answer valid.1 valid.2 valid.3 nest (at + length header) rest deeper valid.5 (moved_on bytes header (print_values values ++ rest) at e') (let P : ℕ → Type 0 = λ z. Runs already bytes answer (ended nest) z in subst P place r))
+      (ap (λ z. value_at depth member k z) e' ∙ header_opens depth member k valid.1 valid.2 valid.3 header (print_values values ++ rest) valid.0 valid.4)
+      (values_run values already (depth + 1) bytes answer valid.1 valid.2 valid.3 nest (at + length header) rest deeper valid.5 (moved_on bytes header (print_values values ++ rest) at e') (let P : ℕ → Type 0 = λ z. Runs already bytes answer (ended nest) z in subst P place r))
   value_runs (structure fields) already depth bytes answer member k nest at rest deep valid e r =
       let deeper : depth + 1 ≡ already + length nest + 1 = omega arith in
       let here : at ≡ at + 0 = omega arith in
       let P : ℕ → Type 0 = λ z. Runs already bytes answer (Fields (pos 0) ∷ nest) z in
       value_stepped already depth bytes answer member k nest at (Some (Fields (pos 0))) 0 deep
-        (ap (λ z. value_at depth member z (drop at bytes)) valid.1 ∙ struct_opens depth member (drop at bytes) valid.0)
-        (subst P here (fields_run fields already (depth + 1) bytes answer (pos 0) nest at rest deeper valid.2 e r))
+      (ap (λ z. value_at depth member z (drop at bytes)) valid.1 ∙ struct_opens depth member (drop at bytes) valid.0)
+      (subst P here (fields_run fields already (depth + 1) bytes answer (pos 0) nest at rest deeper valid.2 e r))
 
   values_run : (vs : Values) (already depth : ℕ) (bytes : List ℕ) (answer : Result ℕ ThriftFault) (first then : Kind) (n : ℕ) (nest : List Open) (at : ℕ) (rest : List ℕ) → depth ≡ already + length nest + 1 → AreValues depth first then n vs → drop at bytes ≡ print_values vs ++ rest → Runs already bytes answer (ended nest) (at + length (print_values vs)) → Runs already bytes answer (with_opened (members first then n) nest) at
   values_run no_values already depth bytes answer first then n nest at rest deep valid e r =
@@ -267,23 +280,23 @@ mutual
       let Q : List Open → Type 0 = λ z. Runs already bytes answer z (at + length (print_value v)) in
       let more = values_run vs already depth bytes answer then first (n - 1) nest (at + length (print_value v)) rest deep valid.2 (moved_on bytes (print_value v) (print_values vs ++ rest) at e') (subst P place r) in
       rw (opens_some first then n valid.0)
-        (member_goes already bytes answer first then n nest at
-          (value_runs v already depth bytes answer true first (Members first then n ∷ nest) at (print_values vs ++ rest) deeper valid.1 e' (subst Q (sym (ended_members first then n nest valid.0)) more)))
+      (member_goes already bytes answer first then n nest at
+      (value_runs v already depth bytes answer true first (Members first then n ∷ nest) at (print_values vs ++ rest) deeper valid.1 e' (subst Q (sym (ended_members first then n nest valid.0)) more)))
 
   fields_run : (fs : FieldList) (already depth : ℕ) (bytes : List ℕ) (answer : Result ℕ ThriftFault) (last : ℤ) (nest : List Open) (at : ℕ) (rest : List ℕ) → depth ≡ already + length nest + 1 → AreFields depth last fs → drop at bytes ≡ print_fields fs ++ rest → Runs already bytes answer (ended nest) (at + length (print_fields fs)) → Runs already bytes answer (Fields last ∷ nest) at
   fields_run stop already depth bytes answer last nest at rest deep valid e r =
       stop_goes already bytes answer last nest at (ap (λ z. header_at last z) e ∙ header_only last None (0 ∷ []) rest refl) r
   fields_run (field header number k v fs) already depth bytes answer last nest at rest deep valid e r =
       let e' : drop at bytes ≡ header ++ (print_value v ++ (print_fields fs ++ rest)) =
-          e ∙ append_assoc header (print_value v ++ print_fields fs) rest ∙ ap (λ z. header ++ z) (append_assoc (print_value v) (print_fields fs) rest) in
+      e ∙ append_assoc header (print_value v ++ print_fields fs) rest ∙ ap (λ z. header ++ z) (append_assoc (print_value v) (print_fields fs) rest) in
       let inner = moved_on bytes header (print_value v ++ (print_fields fs ++ rest)) at e' in
       let deeper : depth ≡ already + suc (length nest) = omega arith in
       let place : at + length (header ++ (print_value v ++ print_fields fs)) ≡ at + length header + length (print_value v) + length (print_fields fs) = omega (arith, length-append header (print_value v ++ print_fields fs), length-append (print_value v) (print_fields fs)) in
       let P : ℕ → Type 0 = λ z. Runs already bytes answer (ended nest) z in
       let more = fields_run fs already depth bytes answer number nest (at + length header + length (print_value v)) rest deep valid.2 (moved_on bytes (print_value v) (print_fields fs ++ rest) (at + length header) inner) (subst P place r) in
       field_goes already bytes answer last number k nest at (length header)
-        (ap (λ z. header_at last z) e' ∙ header_only last (Some (number, k)) header (print_value v ++ (print_fields fs ++ rest)) valid.0)
-        (value_runs v already depth bytes answer false k (Fields number ∷ nest) (at + length header) (print_fields fs ++ rest) deeper valid.1 inner more)
+      (ap (λ z. header_at last z) e' ∙ header_only last (Some (number, k)) header (print_value v ++ (print_fields fs ++ rest)) valid.0)
+      (value_runs v already depth bytes answer false k (Fields number ∷ nest) (at + length header) (print_fields fs ++ rest) deeper valid.1 inner more)
 
 ended_answer : (already : ℕ) (bytes : List ℕ) (answer : Result ℕ ThriftFault) (at : ℕ) → Runs already bytes answer [] at → answer ≡ Ok at
 ended_answer already bytes answer at (nothing_open _ e) = e

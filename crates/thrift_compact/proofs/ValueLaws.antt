@@ -10,7 +10,8 @@ use Rattle.thrift_compact.specs.declared.stack.Open.{Open}
 use Rattle.thrift_compact.specs.declared.stack.Open.TheVariants.{Fields, Members}
 use Rattle.thrift_compact.specs.Items.{Item, then_read, byte_at, number_at, list_header_at, map_header_at, byte_list_at, opening, members, map_members, whole, truth_at, double_at, value_at}
 use Rattle.thrift_compact.specs.Grammar.{SpellsNumber, SpellsListHeader, SpellsMapHeader, SpellsByteList, IsSimple, HeadsMembers, Value, simple, sequence, structure, no_values, value, print_value, IsValue}
-use Rattle.thrift_compact.proofs.VarintLaws.{IsBytes, guard_ok, ok_same}
+use Rattle.thrift_compact.specs.Varints.{IsBytes}
+use Rattle.thrift_compact.proofs.VarintLaws.{guard_ok, ok_same}
 use Rattle.thrift_compact.proofs.ItemLaws.{then_ok, number_found, number_only, list_header_found, list_header_only, map_header_found, map_header_only, byte_list_found, byte_list_only}
 
 -- the bytes that were taken are a whole value, or the front of one that is open now

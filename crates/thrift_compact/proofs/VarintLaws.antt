@@ -4,12 +4,8 @@ use Rattle.std.specs.List.{position_or_len, prefix_len, AllByRecursion}
 use Rattle.std.proofs.lemmas.Bool.{ltb-true, ltb-false, le-ltb, lt-ltb, leb-true, leb-false, le-leb, lt-leb}
 use Rattle.std.proofs.lemmas.List.{length-append, take_at}
 use Rattle.thrift_compact.specs.declared.faults.ThriftFault.{ThriftFault}
-use Rattle.thrift_compact.specs.Varints.{print_varint, varint_number, IsVarint, is_last, low_groups, varint_to, varint_at}
+use Rattle.thrift_compact.specs.Varints.{IsBytes, print_varint, varint_number, IsVarint, is_last, low_groups, varint_to, varint_at}
 use Rattle.thrift_compact.specs.Grammar.{SpellsVarint}
-
--- each element is a byte
-abbrev pub IsBytes : List ℕ → Type 0
-IsBytes bytes = (i : ℕ) → get_or bytes i 0 < 256
 
 -- where the first last byte stands
 abbrev place : List ℕ → ℕ
@@ -34,7 +30,7 @@ more_text b n (c ∷ text) h k some t = record {
   printed = let e = high_bit b h k in rw (e, t.printed) refl;
   bits = (omega arith, t.bits);
   groups = omega (arith, t.groups);
-  len = omega (arith, t.len)
+  len = omega (arith, t.len);
 }
 
 pub text_found : (bytes : List ℕ) → IsBytes bytes → place bytes < length bytes → IsText (suc (place bytes)) (take (suc (place bytes)) bytes)
@@ -100,7 +96,7 @@ varint_found limit bytes n taken fits e = go (nat_lt (place bytes) (length bytes
               groups = low_groups (take (suc (place bytes)) bytes);
               valid = record { some = omega (arith, t.groups); ten = omega (arith, t.groups); seven_bits = t.bits; within = low };
               number = refl;
-              text_is = sym t.printed
+              text_is = sym t.printed;
             }
 
 -- a varint that is spelled is read

@@ -8,6 +8,10 @@ use Rattle.thrift_compact.specs.Codes.{kind_code}
 use Rattle.thrift_compact.specs.Varints.{IsVarint, print_varint, varint_number, zigzag}
 use Rattle.thrift_compact.specs.Items.{largest_size}
 
+-- no front of the bytes is one of these
+abbrev pub NoFront : (List ℕ → Type 0) → List ℕ → Type 0
+NoFront Spells bytes = (text rest : List ℕ) → Spells text → bytes ≡ text ++ rest → ⊥
+
 -- the bytes are a varint of this number
 pub record SpellsVarint (limit n : ℕ) (text : List ℕ) : Type 0 where
   pub groups : List ℕ

@@ -1,7 +1,7 @@
 -- What a reader stands at, and what each of its calls answers and leaves. A call on a reader with a fault
 -- answers that fault and leaves the reader as it was. Else it reads what stands at the reader's place: it
 -- moves behind that, or keeps the first fault and stands at the fault's place.
-use Rattle.std.specs.Prelude.{◌≡◌, ◌≤◌, ℕ, ℤ, pos, ◌+◌, Bool, true, false, ◌||◌, IsTrue, is_some, nat_le, List, [], ◌∷◌, length, drop, if◌then◌else◌, Option, None, Some, Result, Ok, Err}
+use Rattle.std.specs.Prelude.{◌≡◌, ◌≤◌, ℕ, ℤ, pos, ◌+◌, Bool, true, false, ◌||◌, IsTrue, is_some, nat_le, List, [], ◌∷◌, ◌++◌, length, drop, if◌then◌else◌, Option, None, Some, Result, Ok, Err}
 use Rattle.thrift_compact.specs.declared.faults.ThriftFault.{ThriftFault}
 use Rattle.thrift_compact.specs.declared.faults.ThriftFaultCode.TheVariants.{TooDeep}
 use Rattle.thrift_compact.specs.declared.kinds.Kind.{Kind}
@@ -10,6 +10,7 @@ use Rattle.thrift_compact.specs.declared.stack.Open.TheVariants.{Fields, Members
 use Rattle.thrift_compact.specs.Opens.{ended, with_opened, in_members, in_fields, last_number, after_header}
 use Rattle.thrift_compact.specs.Varints.{fault}
 use Rattle.thrift_compact.specs.Items.{Item, then_read, number_at, header_at, list_header_at, byte_list_at, members}
+use Rattle.thrift_compact.specs.Grammar.{Value, print_value, IsValue}
 use Rattle.thrift_compact.specs.Runs.{placed, Passes}
 
 -- the bytes that it reads, its place in them, what is open there (the innermost first), and the first fault
@@ -101,3 +102,14 @@ pub record MovesOn (old new : State) : Type 0 where
   pub bytes : new.bytes ≡ old.bytes
   pub forward : old.at ≤ new.at
   pub within : new.at ≤ length new.bytes
+
+-- the reader has moved behind one of these
+pub record Takes (Spells : List ℕ → Type 0) (old new : State) : Type 0 where
+  pub text : List ℕ
+  pub spelled : Spells text
+  pub front : left old ≡ text ++ left new
+
+-- the bytes are a value of this kind, inside what is open
+abbrev pub SpellsValue : Kind → State → List ℕ → Type 0
+SpellsValue kind s text =
+    (v : Value) × IsValue (length s.nesting) (in_members s.nesting) kind v × (text ≡ print_value v)

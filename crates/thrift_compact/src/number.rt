@@ -1,14 +1,18 @@
 //! Varints.
-ghost use Rattle.std.specs.Prelude.{◌≡◌, ◌^◌, ◌-◌, ◌+◌, ◌≤◌, ◌<◌, length, IfOk, IfErr};
+ghost use Rattle.std.specs.Prelude.{◌≡◌, ◌^◌, ◌-◌, ◌+◌, ◌≤◌, ◌<◌, length, IfOk, IfErr, OnErr, ℕ, take};
 ghost use Rattle.std.specs.List.{position};
 ghost use Rattle.thrift_compact.specs.Varints.{varint_at, varint_number, low_groups, is_last};
+ghost use Rattle.thrift_compact.specs.Grammar.{SpellsVarint, NoFront};
 
 use crate::faults::{ThriftFault, ThriftFaultCode, fault_at};
 
 /// The number of the varint without sign at the front of the bytes, and its length in bytes
 /// (ULEB128; Apache Thrift compact protocol, "Integer encoding").
 pub fn varint(bytes: &[u8]) -> Result<(u64, usize), ThriftFault>
+    ensures found { IfOk result (λ x. SpellsVarint (2 ^ 64 - 1) x.0 (take x.1 bytes.now)) }
+    ensures refused { OnErr result ((n : ℕ) → NoFront (SpellsVarint (2 ^ 64 - 1) n) bytes.now) }
     ensures exact { result ≡ varint_at (2 ^ 64 - 1) bytes.now }
+    ensures bound { IfOk result (λ x. x.1 ≤ length bytes.now) }
 {
     varint_within(bytes, u64::MAX)
 }

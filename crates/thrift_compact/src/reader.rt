@@ -1,9 +1,11 @@
 //! The reader.
-ghost use Rattle.std.specs.Prelude.{◌≡◌, ◌≤◌, ◌<◌, ◌+◌, length, IfOk, IfErr, OnOk, IsSome, Some, ◌∷◌, pos};
+ghost use Rattle.std.specs.Prelude.{◌≡◌, ◌≤◌, ◌<◌, ◌+◌, length, IfOk, IfErr, IfSome, OnOk, OnErr, IsSome, Some, None, Err, Option, List, ℤ, ℕ, ◌∷◌, pos};
 ghost use Rattle.thrift_compact.specs.Runs.{placed, Passes};
-ghost use Rattle.thrift_compact.specs.States.{over_bytes, faulted, CanReadField, MovesOn, field_answer, int_answer, bytes_answer, list_answer, enter_answer, SkipAnswer, given_bytes, if_room};
+ghost use Rattle.thrift_compact.specs.States.{over_bytes, faulted, CanReadField, MovesOn, field_answer, int_answer, bytes_answer, list_answer, enter_answer, SkipAnswer, given_bytes, if_room, left, Takes, SpellsValue};
+ghost use Rattle.thrift_compact.specs.Grammar.{SpellsHeader, SpellsNumber, SpellsByteList, SpellsListHeader, NoFront};
+ghost use Rattle.thrift_compact.specs.declared.kinds.Kind.{Kind};
 ghost use Rattle.thrift_compact.specs.Items.{list_header_at, then_read, members};
-ghost use Rattle.thrift_compact.specs.Opens.{in_members, ended, with_opened, after_header};
+ghost use Rattle.thrift_compact.specs.Opens.{last_number, in_members, ended, with_opened, after_header};
 
 use crate::faults::{ThriftFault, ThriftFaultCode, fault_at};
 use crate::items::{byte_list_of, header_of, list_header_of, number_of};
@@ -75,6 +77,9 @@ impl<'r> Reader<'r> {
     #[tactic(auto, unfolding(crate::specs::States::field_answer))]
     pub fn field(&mut self) -> Result<Option<(i16, Kind)>, ThriftFault>
         requires { CanReadField self.old }
+        ensures found { IfOk result (λ h. Takes (SpellsHeader (last_number self.old.nesting) h) self.old self.new) }
+        ensures refused { OnErr result (self.old.fault ≡ None → (h : Option (ℤ × Kind)) → NoFront (SpellsHeader (last_number self.old.nesting) h) (left self.old)) }
+        ensures sticky { IfSome self.old.fault (λ f. (result ≡ Err f) × (self.new ≡ self.old)) }
         ensures nesting { IfOk result (λ h. self.new.nesting ≡ after_header h self.old.nesting) }
         ensures fault { IfErr result (λ f. self.new.fault ≡ Some f) }
         ensures again { IfOk result (λ h. IsSome h → CanReadField self.new) }
@@ -98,6 +103,9 @@ impl<'r> Reader<'r> {
     /// A number of kind `I8`, `I16`, `I32` or `I64` ("Integer encoding"). Another kind is `BadKind`.
     #[tactic(auto, unfolding(crate::specs::States::int_answer))]
     pub fn int(&mut self, kind: Kind) -> Result<i64, ThriftFault>
+        ensures found { IfOk result (λ n. Takes (SpellsNumber kind n) self.old self.new) }
+        ensures refused { OnErr result (self.old.fault ≡ None → (n : ℤ) → NoFront (SpellsNumber kind n) (left self.old)) }
+        ensures sticky { IfSome self.old.fault (λ f. (result ≡ Err f) × (self.new ≡ self.old)) }
         ensures nesting { OnOk result (self.new.nesting ≡ ended self.old.nesting) }
         ensures fault { IfErr result (λ f. self.new.fault ≡ Some f) }
         ensures again { CanReadField self.old → CanReadField self.new }
@@ -121,6 +129,9 @@ impl<'r> Reader<'r> {
     /// A byte list ("Binary encoding"), lent from the reader's bytes.
     #[tactic(auto, unfolding(crate::specs::States::bytes_answer))]
     pub fn bytes(&mut self) -> Result<&'r [u8], ThriftFault>
+        ensures found { IfOk result (λ list. Takes (SpellsByteList list.now) self.old self.new) }
+        ensures refused { OnErr result (self.old.fault ≡ None → (list : List ℕ) → NoFront (SpellsByteList list) (left self.old)) }
+        ensures sticky { IfSome self.old.fault (λ f. (result ≡ Err f) × (self.new ≡ self.old)) }
         ensures nesting { OnOk result (self.new.nesting ≡ ended self.old.nesting) }
         ensures fault { IfErr result (λ f. self.new.fault ≡ Some f) }
         ensures again { CanReadField self.old → CanReadField self.new }
@@ -145,6 +156,10 @@ impl<'r> Reader<'r> {
     /// member closes it, and it is closed at once where it has none.
     #[tactic(auto, unfolding(crate::specs::States::list_answer))]
     pub fn list(&mut self) -> Result<(Kind, u32), ThriftFault>
+        ensures found { IfOk result (λ h. Takes (SpellsListHeader h) self.old self.new) }
+        ensures room { OnOk result (length self.old.nesting < 32) }
+        ensures refused { OnErr result (self.old.fault ≡ None → length self.old.nesting < 32 → (h : Kind × ℕ) → NoFront (SpellsListHeader h) (left self.old)) }
+        ensures sticky { IfSome self.old.fault (λ f. (result ≡ Err f) × (self.new ≡ self.old)) }
         ensures nesting { IfOk result (λ h. self.new.nesting ≡ with_opened (members h.0 h.0 h.1) self.old.nesting) }
         ensures fault { IfErr result (λ f. self.new.fault ≡ Some f) }
         ensures exact { (result, self.new) ≡ list_answer self.old }
@@ -167,6 +182,9 @@ impl<'r> Reader<'r> {
     /// Opens a struct, which takes no byte. The end of its fields closes it.
     #[tactic(auto, unfolding(crate::specs::States::enter_answer))]
     pub fn enter(&mut self) -> Result<(), ThriftFault>
+        ensures room { OnOk result (length self.old.nesting < 32) }
+        ensures refused { OnErr result (self.old.fault ≡ None → 32 ≤ length self.old.nesting) }
+        ensures sticky { IfSome self.old.fault (λ f. (result ≡ Err f) × (self.new ≡ self.old)) }
         ensures nesting { OnOk result (self.new.nesting ≡ Open.Fields (pos 0) ∷ self.old.nesting) }
         ensures fault { IfErr result (λ f. self.new.fault ≡ Some f) }
         ensures again { CanReadField self.new }
@@ -186,6 +204,9 @@ impl<'r> Reader<'r> {
     /// Passes over a value of any kind. The truth value of a struct's field takes no byte, as its header
     /// has it.
     pub fn skip(&mut self, kind: Kind) -> Result<(), ThriftFault>
+        ensures found { OnOk result (Takes (SpellsValue kind self.old) self.old self.new) }
+        ensures refused { OnErr result (self.old.fault ≡ None → NoFront (SpellsValue kind self.old) (left self.old)) }
+        ensures sticky { IfSome self.old.fault (λ f. (result ≡ Err f) × (self.new ≡ self.old)) }
         ensures nesting { OnOk result (self.new.nesting ≡ ended self.old.nesting) }
         ensures fault { IfErr result (λ f. self.new.fault ≡ Some f) }
         ensures again { CanReadField self.old → CanReadField self.new }

@@ -1,5 +1,6 @@
 //! Passing over what a value has opened, with a stack of its own in place of recursion.
 ghost use Rattle.std.specs.Prelude.{◌≡◌, ◌≤◌, ◌<◌, ◌+◌, ◌*◌, [], ◌∷◌, length, drop, IfOk, IfErr, Ok, Err, true, false, ◌^◌};
+ghost use Rattle.thrift_compact.specs.Varints.{IsBytes};
 ghost use Rattle.thrift_compact.specs.Items.{header_at, then_read};
 ghost use Rattle.thrift_compact.specs.Opens.{below_top};
 ghost use Rattle.thrift_compact.specs.Runs.{step, value_step, field_step, weight, placed, Runs};
@@ -26,6 +27,7 @@ pub(crate) fn rest_of(bytes: &[u8], at: usize) -> &[u8]
     requires { at ≤ length bytes.now }
     ensures value { result.now ≡ drop at bytes.now }
     ensures len { length result.now + at ≡ length bytes.now }
+    ensures fits { IsBytes result.now }
 {
     bytes.split_at(at).1
 }
