@@ -3,8 +3,12 @@ use Rattle.std.proofs.Common.{◌≡◌, ℕ, ◌+◌, ◌<◌, ◌≤◌, List,
 use Rattle.std.proofs.lemmas.List.{take-append-drop, drop-drop}
 use Rattle.thrift_compact.specs.declared.faults.ThriftFault.{ThriftFault}
 use Rattle.thrift_compact.specs.Items.{Item}
-use Rattle.thrift_compact.specs.Grammar.{NoFront}
-use Rattle.thrift_compact.specs.States.{State, left, Takes}
+use Rattle.thrift_compact.specs.declared.kinds.Kind.{Kind}
+use Rattle.thrift_compact.specs.Opens.{in_members}
+use Rattle.thrift_compact.specs.Varints.{IsBytes}
+use Rattle.thrift_compact.specs.Grammar.{NoFront, Value, print_value, IsValue}
+use Rattle.thrift_compact.specs.States.{State, left, Takes, SpellsValue, SkipsTo, skipped}
+use Rattle.thrift_compact.proofs.RunLaws.{passes_found, passes_one, passes_only}
 
 -- what is read is spelled
 pub found_by : {X : Type 0} (r item : Item X) (Spells : X → List ℕ → Type 0) (bytes : List ℕ) → r ≡ item → ((x : X) (n : ℕ) → item ≡ Ok (x, n) → Spells x (take n bytes)) → IfOk r (λ x. Spells x.0 (take x.1 bytes))
@@ -28,3 +32,25 @@ takes_by Spells old new rest taken here s same place =
       spelled = s;
       front = sym here ∙ sym (take-append-drop taken rest) ∙ ap (λ z. take taken rest ++ z) (ap (λ z. drop taken z) here ∙ drop-drop taken old.at old.bytes ∙ ap (λ z. drop z old.bytes) (sym place) ∙ ap (λ z. drop new.at z) (sym same));
     }
+
+-- a value was passed over
+pub skip_takes : (kind : Kind) (old new : State) (end : ℕ) → IsBytes old.bytes → SkipsTo kind old (Ok end) → new.bytes ≡ old.bytes → new.at ≡ end → Takes (SpellsValue kind old) old new
+skip_takes kind old new end fits to same place =
+    let p = passes_found (length old.nesting) (in_members old.nesting) kind old.bytes old.at end fits to in
+    record {
+      text = print_value p.0;
+      spelled = (p.0, p.1, refl);
+      front = p.2 ∙ ap (λ z. print_value p.0 ++ z) (ap (λ z. drop z old.bytes) (sym place) ∙ ap (λ z. drop new.at z) (sym same));
+    }
+
+-- no value could be passed over
+pub skip_refuses : (kind : Kind) (s : State) (f : ThriftFault) → SkipsTo kind s (Err f) → NoFront (SpellsValue kind s) (left s)
+skip_refuses kind s f to text rest spelled front =
+    let whole : drop s.at s.bytes ≡ print_value spelled.0 ++ rest = front ∙ ap (λ z. z ++ rest) spelled.2 in
+    let through = passes_only (length s.nesting) (in_members s.nesting) kind s.bytes s.at spelled.0 rest spelled.1 whole in
+    let one = passes_one (length s.nesting) (in_members s.nesting) kind s.bytes s.at (Err f) (Ok (s.at + length (print_value spelled.0))) to through in
+    cc
+
+-- there is no other answer
+pub skip_one : (kind : Kind) (s : State) (a b : Result ℕ ThriftFault) → SkipsTo kind s a → SkipsTo kind s b → a ≡ b
+skip_one kind s a b p q = passes_one (length s.nesting) (in_members s.nesting) kind s.bytes s.at a b p q

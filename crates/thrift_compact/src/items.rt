@@ -1,5 +1,6 @@
 //! The items that are read one at a time: numbers, headers and byte lists.
-ghost use Rattle.std.specs.Prelude.{◌≡◌, ◌≤◌, ◌<◌, ◌^◌, ◌-◌, length, IfOk, IfErr, IfSome, Ok, Err};
+ghost use Rattle.std.specs.Prelude.{◌≡◌, ◌≤◌, ◌<◌, ◌^◌, ◌-◌, length, FitsSigned, IfOk, IfErr, IfSome, Ok, Err};
+ghost use Rattle.std.specs.Int.{w64};
 ghost use Rattle.thrift_compact.specs.Varints.{zigzag};
 ghost use Rattle.thrift_compact.specs.Items.{byte_at, signed_at, number_at, header_at, list_header_at, map_header_at, byte_list_at, number_after};
 
@@ -42,6 +43,7 @@ fn signed_of(limit: u64, bytes: &[u8]) -> Result<(i64, usize), ThriftFault>
 #[tactic(auto, unfolding(crate::specs::Items::number_at))]
 pub(crate) fn number_of(kind: Kind, bytes: &[u8]) -> Result<(i64, usize), ThriftFault>
     ensures exact { result ≡ number_at kind bytes.now }
+    ensures range { IfOk result (λ x. FitsSigned w64 x.0) }
     ensures bound { IfOk result (λ x. x.1 ≤ length bytes.now) }
     ensures place { IfErr result (λ f. f.at ≤ length bytes.now) }
     ensures some { IfOk result (λ x. 0 < x.1) }

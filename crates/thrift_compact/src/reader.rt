@@ -1,7 +1,9 @@
 //! The reader.
-ghost use Rattle.std.specs.Prelude.{◌≡◌, ◌≤◌, ◌<◌, ◌+◌, length, IfOk, IfErr, IfSome, OnOk, OnErr, IsSome, Some, None, Err, Option, List, ℤ, ℕ, ◌∷◌, pos};
+ghost use Rattle.std.specs.Prelude.{◌≡◌, ◌≤◌, ◌<◌, ◌+◌, length, IfOk, IfErr, IfSome, OnOk, OnErr, IsSome, Some, None, Ok, Err, Option, Result, List, ℤ, ℕ, ◌∷◌, pos};
 ghost use Rattle.thrift_compact.specs.Runs.{placed, Passes};
-ghost use Rattle.thrift_compact.specs.States.{over_bytes, faulted, CanReadField, MovesOn, field_answer, int_answer, bytes_answer, list_answer, enter_answer, SkipAnswer, given_bytes, if_room, left, Takes, SpellsValue};
+ghost use Rattle.thrift_compact.specs.States.{over_bytes, faulted, CanReadField, MovesOn, field_answer, int_answer, bytes_answer, list_answer, enter_answer, SkipAnswer, given_bytes, if_room, left, Takes, SpellsValue, SkipsTo, skipped};
+ghost use Rattle.thrift_compact.specs.declared.faults.ThriftFault.{ThriftFault};
+ghost use Rattle.thrift_compact.specs.Varints.{IsBytes};
 ghost use Rattle.thrift_compact.specs.Grammar.{SpellsHeader, SpellsNumber, SpellsByteList, SpellsListHeader, NoFront};
 ghost use Rattle.thrift_compact.specs.declared.kinds.Kind.{Kind};
 ghost use Rattle.thrift_compact.specs.Items.{list_header_at, then_read, members};
@@ -211,6 +213,7 @@ impl<'r> Reader<'r> {
         ensures fault { IfErr result (λ f. self.new.fault ≡ Some f) }
         ensures again { CanReadField self.old → CanReadField self.new }
         ensures exact { SkipAnswer kind self.old (result, self.new) }
+        ensures only { self.old.fault ≡ None → (to : Result ℕ ThriftFault) → SkipsTo kind self.old to → (result, self.new) ≡ skipped self.old to }
         ensures moves { MovesOn self.old self.new }
     {
         if let Some(fault) = self.fault {
@@ -235,6 +238,7 @@ impl<'r> Reader<'r> {
 fn pass(bytes: &[u8], at: usize, nesting: &OpenStack, kind: Kind) -> Result<usize, ThriftFault>
     requires { at ≤ length bytes.now }
     ensures exact { Passes (length nesting.now) (in_members nesting.now) kind bytes.now at result }
+    ensures fits { IsBytes bytes.now }
     ensures bound { IfOk result (λ n. (at ≤ n) × (n ≤ length bytes.now)) }
     ensures place { IfErr result (λ f. (at ≤ f.at) × (f.at ≤ length bytes.now)) }
 {
@@ -253,6 +257,8 @@ fn pass(bytes: &[u8], at: usize, nesting: &OpenStack, kind: Kind) -> Result<usiz
 // The header of a list or set, where so many constructs are open already.
 fn list_of(already: usize, bytes: &[u8]) -> Result<((Kind, u32), usize), ThriftFault>
     ensures exact { result ≡ then_read (list_header_at bytes.now) (if_room already) }
+    ensures header { IfOk result (λ x. list_header_at bytes.now ≡ Ok x) }
+    ensures none { IfErr result (λ f. already < 32 → list_header_at bytes.now ≡ Err f) }
     ensures some { IfOk result (λ x. 0 < x.1) }
     ensures bound { IfOk result (λ x. x.1 ≤ length bytes.now) }
     ensures place { IfErr result (λ f. f.at ≤ length bytes.now) }

@@ -1,5 +1,6 @@
 //! What is open at a place: structs and lists, and the maps that a skip goes through.
-ghost use Rattle.std.specs.Prelude.{◌≡◌, ◌+◌, ◌-◌, ◌<◌, ◌≤◌, [], ◌∷◌, length, IsSome, IsNone};
+ghost use Rattle.std.specs.Prelude.{◌≡◌, ◌+◌, ◌-◌, ◌<◌, ◌≤◌, [], ◌∷◌, length, IsSome, IsNone, FitsSigned};
+ghost use Rattle.std.specs.Int.{w16};
 ghost use Rattle.thrift_compact.specs.Opens.{top_of, below_top, ended, with_opened, last_number, after_header, in_members};
 
 use crate::kinds::Kind;
@@ -82,7 +83,8 @@ impl OpenStack {
 
     /// The number of the last field of the innermost struct.
     pub fn last_field(&self) -> i16
-        ensures { result ≡ last_number self.now }
+        ensures last { result ≡ last_number self.now }
+        ensures range { FitsSigned w16 result }
     {
         match self.top() {
             Some(Open::Fields { last }) => last,
