@@ -69,6 +69,15 @@ impl<'r> Reader<'r> {
         ensures kept { self.new ≡ faulted self.old (placed self.old.at fault) }
     {
         let fault = placed(self.at, fault);
+        self.keep(fault)
+    }
+
+    // Keeps a fault, and stands at its place.
+    fn keep(&mut self, fault: ThriftFault) -> ThriftFault
+        requires { fault.at ≤ length self.old.bytes }
+        ensures fault { result ≡ fault }
+        ensures kept { self.new ≡ faulted self.old fault }
+    {
         self.at = fault.at as usize;
         self.fault = Some(fault);
         fault
@@ -225,11 +234,7 @@ impl<'r> Reader<'r> {
                 self.nesting.end_value();
                 Ok(())
             }
-            Err(fault) => {
-                self.at = fault.at as usize;
-                self.fault = Some(fault);
-                Err(fault)
-            }
+            Err(fault) => Err(self.keep(fault)),
         }
     }
 }

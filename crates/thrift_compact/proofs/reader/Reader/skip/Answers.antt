@@ -1,5 +1,5 @@
 use Rattle.std.proofs.Common.{◌≡◌, ◌+◌, ◌<◌, ℕ, Result, Ok, Err, ap, sym, ◌∙◌, refl, subst, arith}
-use Rattle.thrift_compact.specs.States.{State, left, SkipsTo, skipped, faulted}
+use Rattle.thrift_compact.specs.States.{State, left, SkipsTo, skipped}
 use Rattle.thrift_compact.specs.Opens.{ended}
 use Rattle.thrift_compact.specs.declared.faults.ThriftFault.{ThriftFault}
 use Rattle.thrift_compact.specs.Varints.{IsBytes}
@@ -26,5 +26,4 @@ returns-in-Ok-clause-only c =
 pub returns-in-Err-clause-only : goal.returns-in-Err-clause-only
 returns-in-Err-clause-only c =
     let P : State → Type 0 = λ s. SkipsTo c.args.kind s (Err c.in-Err.fault) in
-    let R : State → Result (Unit {0}) ThriftFault × State = λ s. (Err c.in-Err.fault, faulted s c.in-Err.fault) in
-    λ none to p. ap R c.self.view_is ∙ ap (skipped c.args.self.now) (skip_one c.args.kind c.args.self.now (Err c.in-Err.fault) to (subst P c.self.view_is c.in-Err.ensures.exact) p)
+    λ none to p. rw (c.keep.ensures.fault, c.keep.ensures.kept) (ap (skipped c.args.self.now) (skip_one c.args.kind c.args.self.now (Err c.in-Err.fault) to (subst P c.self.view_is c.in-Err.ensures.exact) p))
