@@ -1,13 +1,13 @@
 -- The clauses of the calls, from the laws on what they read.
-use Rattle.std.proofs.Common.{◌≡◌, ℕ, ◌+◌, ◌<◌, ◌≤◌, List, [], ◌∷◌, ◌++◌, length, drop, take, Option, Some, None, Result, Ok, Err, IfOk, OnErr, refl, ap, sym, ◌∙◌, subst, arith}
+use Rattle.std.proofs.Common.{◌≡◌, ℕ, ◌+◌, List, ◌++◌, length, drop, take, Result, Ok, Err, IfOk, OnErr, refl, ap, sym, ◌∙◌}
 use Rattle.std.proofs.lemmas.List.{take-append-drop, drop-drop}
 use Rattle.thrift_compact.specs.declared.faults.ThriftFault.{ThriftFault}
 use Rattle.thrift_compact.specs.Items.{Item}
 use Rattle.thrift_compact.specs.declared.kinds.Kind.{Kind}
 use Rattle.thrift_compact.specs.Opens.{in_members}
 use Rattle.thrift_compact.specs.Varints.{IsBytes}
-use Rattle.thrift_compact.specs.Grammar.{NoFront, Value, print_value, IsValue}
-use Rattle.thrift_compact.specs.States.{State, left, Takes, SpellsValue, SkipsTo, skipped}
+use Rattle.thrift_compact.specs.Grammar.{NoFront, print_value}
+use Rattle.thrift_compact.specs.States.{State, left, Takes, SpellsValue, SkipsTo}
 use Rattle.thrift_compact.proofs.RunLaws.{passes_found, passes_one, passes_only}
 
 -- what is read is spelled

@@ -1,10 +1,10 @@
 -- What an item's reading answers is what the bytes spell, both ways.
-use Rattle.std.proofs.Common.{◌≡◌, ℕ, zero, suc, ◌+◌, ◌-◌, ◌*◌, ◌/◌, ◌%◌, ◌^◌, ◌<◌, ◌≤◌, ◌≢◌, ◌⊎◌, inl, inr, ℤ, pos, ◌+ℤ◌, T, Bool, true, false, not, cond, nat_eq, nat_lt, nat_le, List, [], ◌∷◌, ◌++◌, length, drop, take, get_or, Option, Some, None, Result, Ok, Err, refl, ap, sym, ◌∙◌, subst, arith, add-one, append_assoc}
+use Rattle.std.proofs.Common.{◌≡◌, ℕ, suc, ◌+◌, ◌-◌, ◌*◌, ◌/◌, ◌%◌, ◌^◌, ◌<◌, ◌≤◌, ◌≢◌, inl, inr, ℤ, pos, ◌+ℤ◌, T, Bool, true, false, not, cond, nat_eq, nat_lt, List, [], ◌∷◌, ◌++◌, length, drop, take, Option, Some, None, Result, Ok, Err, refl, ap, sym, ◌∙◌, subst, arith, add-one, append_assoc}
 use Rattle.std.specs.Prelude.{int_lt}
 use Rattle.std.specs.Int.{cast_signed, w8}
-use Rattle.std.proofs.lemmas.Bool.{ltb-true, ltb-false, le-ltb, lt-ltb, eq-eqb}
+use Rattle.std.proofs.lemmas.Bool.{ltb-false, le-ltb}
 use Rattle.std.proofs.lemmas.Bool.Decides.{nat_tests}
-use Rattle.std.proofs.lemmas.List.{length-append, length-take-le, take_at, drop_at, take-append-drop}
+use Rattle.std.proofs.lemmas.List.{length-append, length-take-le, take_at, drop_at}
 use Rattle.std.proofs.Math.Seq.{take-add}
 use Rattle.std.specs.Int.Signed.{lt_z_no, lt_z, ◌≤ℤ◌}
 use Rattle.thrift_compact.specs.declared.faults.ThriftFault.{ThriftFault}
@@ -13,7 +13,7 @@ use Rattle.thrift_compact.specs.declared.kinds.Kind.TheVariants as kind
 use Rattle.thrift_compact.specs.Codes.{kind_code, kind_of}
 use Rattle.thrift_compact.specs.Varints.{varint_at, zigzag}
 use Rattle.thrift_compact.specs.Items.{then_read, byte_at, signed_at, number_at, number_after, field_of, header_at, list_of, list_header_at, map_of, map_kinds_at, map_header_at, byte_list_at, largest_size}
-use Rattle.thrift_compact.specs.Grammar.{SpellsVarint, SpellsSigned, SpellsByte, SpellsNumber, IsShortHeader, IsLongHeader, SpellsHeader, IsShortList, IsLongList, SpellsListHeader, IsMapHeader, SpellsMapHeader, SpellsByteList}
+use Rattle.thrift_compact.specs.Grammar.{SpellsVarint, SpellsSigned, SpellsByte, SpellsNumber, IsShortHeader, IsLongHeader, SpellsHeader, IsLongList, SpellsListHeader, IsMapHeader, SpellsMapHeader, SpellsByteList}
 use Rattle.thrift_compact.specs.Varints.{IsBytes}
 use Rattle.thrift_compact.proofs.VarintLaws.{guard_ok, ok_same, varint_found, varint_only}
 

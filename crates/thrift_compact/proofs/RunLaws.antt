@@ -1,20 +1,19 @@
 -- What passing over a value answers is what the bytes spell, both ways, and there is one answer.
-use Rattle.std.proofs.Common.{◌≡◌, ℕ, zero, suc, ◌+◌, ◌-◌, ◌*◌, ◌<◌, ◌≤◌, ◌≢◌, ◌⊎◌, inl, inr, ℤ, pos, Bool, true, false, cond, nat_eq, nat_lt, nat_le, List, [], ◌∷◌, ◌++◌, length, drop, take, get_or, Option, Some, None, Result, Ok, Err, refl, ap, sym, ◌∙◌, subst, arith, add-one, append_assoc, append-nil}
-use Rattle.std.proofs.lemmas.Bool.{ltb-true, ltb-false, le-ltb, lt-ltb, leb-true, leb-false, le-leb, lt-leb}
+use Rattle.std.proofs.Common.{◌≡◌, ℕ, zero, suc, ◌+◌, ◌-◌, ◌<◌, ◌≤◌, ℤ, pos, Bool, true, false, cond, nat_eq, nat_le, List, [], ◌∷◌, ◌++◌, length, drop, take, Option, Some, None, Result, Ok, Err, refl, ap, sym, ◌∙◌, subst, arith, append_assoc, append-nil}
+use Rattle.std.proofs.lemmas.Bool.{leb-true, leb-false}
 use Rattle.std.proofs.lemmas.Bool.Decides.{nat_tests}
 use Rattle.std.proofs.lemmas.List.{length-append, take-append-drop, drop-drop, drop_at}
 use Rattle.std.proofs.Math.Seq.{take-add}
 use Rattle.thrift_compact.specs.declared.faults.ThriftFault.{ThriftFault}
 use Rattle.thrift_compact.specs.declared.kinds.Kind.{Kind}
-use Rattle.thrift_compact.specs.declared.kinds.Kind.TheVariants as kind
 use Rattle.thrift_compact.specs.declared.stack.Open.{Open}
 use Rattle.thrift_compact.specs.declared.stack.Open.TheVariants.{Fields, Members}
 use Rattle.thrift_compact.specs.Opens.{ended, with_opened}
-use Rattle.thrift_compact.specs.Items.{Item, then_read, header_at, value_at, members}
-use Rattle.thrift_compact.specs.Runs.{placed, behind, value_step, field_step, step, Runs, nothing_open, faulty, goes_on, Passes, PassesFrom}
-use Rattle.thrift_compact.specs.Grammar.{SpellsHeader, HeadsMembers, Value, Values, FieldList, simple, sequence, structure, no_values, value, stop, field, print_value, print_values, print_fields, IsValue, AreValues, AreFields}
+use Rattle.thrift_compact.specs.Items.{Item, header_at, value_at, members}
+use Rattle.thrift_compact.specs.Runs.{behind, value_step, field_step, step, Runs, nothing_open, faulty, goes_on, Passes, PassesFrom}
+use Rattle.thrift_compact.specs.Grammar.{SpellsHeader, Value, Values, FieldList, simple, sequence, structure, no_values, value, stop, field, print_value, print_values, print_fields, IsValue, AreValues, AreFields}
 use Rattle.thrift_compact.specs.Varints.{IsBytes}
-use Rattle.thrift_compact.proofs.VarintLaws.{guard_ok, ok_same}
+use Rattle.thrift_compact.proofs.VarintLaws.{ok_same}
 use Rattle.thrift_compact.proofs.ItemLaws.{then_ok, header_found, header_only}
 use Rattle.thrift_compact.proofs.ValueLaws.{Opened, value_found, simple_only, header_opens, struct_opens}
 

@@ -1,8 +1,7 @@
 -- Lemmas on the stack of what is open.
-use Rattle.std.proofs.Common.{◌≡◌, ℕ, zero, suc, ◌+◌, ◌-◌, ◌<◌, ◌≤◌, ◌≢◌, pos, List, [], ◌∷◌, length, get_or, refl, ap, sym, ◌∙◌, arith, add-one, get_or-set_other, get_or-set_same}
+use Rattle.std.proofs.Common.{◌≡◌, ℕ, zero, suc, ◌+◌, ◌<◌, ◌≤◌, ◌≢◌, List, ◌∷◌, length, refl, arith, add-one, get_or-set_other, get_or-set_same}
 use Rattle.std.proofs.Math.ListN.{set}
 use Rattle.thrift_compact.specs.declared.stack.Open.{Open}
-use Rattle.thrift_compact.specs.declared.stack.Open.TheVariants.{Fields, Members}
 use Rattle.thrift_compact.specs.Opens.{innermost_first}
 
 pub stack_len : (frames : List Open) (n : ℕ) → length (innermost_first frames n) ≡ n

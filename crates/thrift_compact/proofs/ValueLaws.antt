@@ -1,15 +1,13 @@
 -- The front of a value that is read is spelled, and the other way round.
-use Rattle.std.proofs.Common.{◌≡◌, ℕ, zero, suc, ◌+◌, ◌-◌, ◌*◌, ◌<◌, ◌≤◌, ◌≢◌, ◌⊎◌, inl, inr, ℤ, pos, Bool, true, false, MatchBool, cond, nat_eq, nat_lt, nat_le, List, [], ◌∷◌, ◌++◌, length, drop, take, get_or, Option, Some, None, Result, Ok, Err, refl, ap, sym, ◌∙◌, subst, arith, add-one, append_assoc, append-nil}
-use Rattle.std.proofs.lemmas.Bool.{ltb-true, ltb-false, le-ltb, lt-ltb, leb-true, leb-false, le-leb, lt-leb}
-use Rattle.std.proofs.lemmas.Bool.Decides.{nat_tests}
-use Rattle.std.proofs.lemmas.List.{length-append, length-take-le, take_at, drop_at, take-append-drop}
-use Rattle.thrift_compact.specs.declared.faults.ThriftFault.{ThriftFault}
+use Rattle.std.proofs.Common.{◌≡◌, ℕ, ◌*◌, ◌<◌, ◌≢◌, inl, inr, pos, Bool, true, false, MatchBool, cond, nat_eq, nat_lt, nat_le, List, [], ◌∷◌, ◌++◌, length, take, Option, Some, None, Ok, refl, ap, sym, subst, arith, append-nil}
+use Rattle.std.proofs.lemmas.Bool.{ltb-false, le-ltb, leb-false, lt-leb}
+use Rattle.std.proofs.lemmas.List.{length-append, length-take-le}
 use Rattle.thrift_compact.specs.declared.kinds.Kind.{Kind}
 use Rattle.thrift_compact.specs.declared.kinds.Kind.TheVariants as kind
 use Rattle.thrift_compact.specs.declared.stack.Open.{Open}
 use Rattle.thrift_compact.specs.declared.stack.Open.TheVariants.{Fields, Members}
-use Rattle.thrift_compact.specs.Items.{Item, then_read, byte_at, number_at, list_header_at, map_header_at, byte_list_at, opening, members, map_members, whole, truth_at, double_at, value_at}
-use Rattle.thrift_compact.specs.Grammar.{SpellsNumber, SpellsListHeader, SpellsMapHeader, SpellsByteList, IsSimple, HeadsMembers, Value, simple, sequence, structure, no_values, value, print_value, IsValue}
+use Rattle.thrift_compact.specs.Items.{Item, then_read, number_at, list_header_at, map_header_at, byte_list_at, opening, members, map_members, whole, truth_at, double_at, value_at}
+use Rattle.thrift_compact.specs.Grammar.{SpellsListHeader, SpellsMapHeader, IsSimple, HeadsMembers, Value, simple, sequence, no_values, print_value, IsValue}
 use Rattle.thrift_compact.specs.Varints.{IsBytes}
 use Rattle.thrift_compact.proofs.VarintLaws.{guard_ok, ok_same}
 use Rattle.thrift_compact.proofs.ItemLaws.{then_ok, number_found, number_only, list_header_found, list_header_only, map_header_found, map_header_only, byte_list_found, byte_list_only}

@@ -1,10 +1,10 @@
 -- What `varint_at` answers is what the bytes spell, both ways.
-use Rattle.std.proofs.Common.{◌≡◌, ℕ, zero, suc, ◌+◌, ◌-◌, ◌*◌, ◌/◌, ◌%◌, ◌^◌, ◌<◌, ◌≤◌, Bool, true, false, not, cond, nat_lt, nat_le, List, [], ◌∷◌, ◌++◌, length, drop, take, get_or, Option, Some, None, Result, Ok, Err, refl, ap, sym, ◌∙◌, subst, arith, add-one}
-use Rattle.std.specs.List.{position_or_len, prefix_len, AllByRecursion}
-use Rattle.std.proofs.lemmas.Bool.{ltb-true, ltb-false, le-ltb, lt-ltb, leb-true, leb-false, le-leb, lt-leb}
+use Rattle.std.proofs.Common.{◌≡◌, ℕ, suc, ◌+◌, ◌%◌, ◌<◌, ◌≤◌, Bool, true, false, not, cond, nat_lt, nat_le, List, [], ◌∷◌, ◌++◌, length, take, Some, None, Result, Ok, Err, refl, ap, sym, arith, add-one}
+use Rattle.std.specs.List.{position_or_len, AllByRecursion}
+use Rattle.std.proofs.lemmas.Bool.{ltb-true, ltb-false, le-ltb, lt-ltb, leb-false, lt-leb}
 use Rattle.std.proofs.lemmas.List.{length-append, take_at}
 use Rattle.thrift_compact.specs.declared.faults.ThriftFault.{ThriftFault}
-use Rattle.thrift_compact.specs.Varints.{IsBytes, print_varint, varint_number, IsVarint, is_last, low_groups, varint_to, varint_at}
+use Rattle.thrift_compact.specs.Varints.{IsBytes, print_varint, varint_number, is_last, low_groups, varint_to, varint_at}
 use Rattle.thrift_compact.specs.Grammar.{SpellsVarint}
 
 -- where the first last byte stands

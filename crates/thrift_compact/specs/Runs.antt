@@ -4,7 +4,7 @@ use Rattle.thrift_compact.specs.declared.faults.ThriftFault.{ThriftFault}
 use Rattle.thrift_compact.specs.declared.kinds.Kind.{Kind}
 use Rattle.thrift_compact.specs.declared.stack.Open.{Open}
 use Rattle.thrift_compact.specs.declared.stack.Open.TheVariants.{Fields, Members}
-use Rattle.thrift_compact.specs.Opens.{ended, with_opened, in_members}
+use Rattle.thrift_compact.specs.Opens.{ended, with_opened}
 use Rattle.thrift_compact.specs.Items.{Item, then_read, header_at, value_at}
 
 -- a fault of bytes that begin at a place

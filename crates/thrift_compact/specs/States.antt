@@ -1,12 +1,12 @@
 -- What a reader stands at, and what each of its calls answers and leaves. A call on a reader with a fault
 -- answers that fault and leaves the reader as it was. Else it reads what stands at the reader's place: it
 -- moves behind that, or keeps the first fault and stands at the fault's place.
-use Rattle.std.specs.Prelude.{◌≡◌, ◌≤◌, ℕ, ℤ, pos, ◌+◌, Bool, true, false, ◌||◌, IsTrue, is_some, nat_le, List, [], ◌∷◌, ◌++◌, length, drop, if◌then◌else◌, Option, None, Some, Result, Ok, Err}
+use Rattle.std.specs.Prelude.{◌≡◌, ◌≤◌, ℕ, ℤ, pos, ◌+◌, ◌||◌, IsTrue, is_some, nat_le, List, [], ◌∷◌, ◌++◌, length, drop, if◌then◌else◌, Option, None, Some, Result, Ok, Err}
 use Rattle.thrift_compact.specs.declared.faults.ThriftFault.{ThriftFault}
 use Rattle.thrift_compact.specs.declared.faults.ThriftFaultCode.TheVariants.{TooDeep}
 use Rattle.thrift_compact.specs.declared.kinds.Kind.{Kind}
 use Rattle.thrift_compact.specs.declared.stack.Open.{Open}
-use Rattle.thrift_compact.specs.declared.stack.Open.TheVariants.{Fields, Members}
+use Rattle.thrift_compact.specs.declared.stack.Open.TheVariants.{Fields}
 use Rattle.thrift_compact.specs.Opens.{ended, with_opened, in_members, in_fields, last_number, after_header}
 use Rattle.thrift_compact.specs.Varints.{fault}
 use Rattle.thrift_compact.specs.Items.{Item, then_read, number_at, header_at, list_header_at, byte_list_at, members}

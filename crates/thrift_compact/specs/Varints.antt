@@ -1,7 +1,7 @@
 -- Numbers of the compact protocol: ULEB128 varints and zigzag (Apache Thrift compact protocol, "Integer
 -- encoding"). A varint is the list of its groups of seven bits, the lowest group first; its bytes are the
 -- groups, and every byte but the last has its high bit set.
-use Rattle.std.specs.Prelude.{◌≡◌, ℕ, ℤ, pos, negsuc, ◌+◌, ◌*◌, ◌/◌, ◌%◌, ◌^◌, ◌<◌, ◌≤◌, ◌==◌, Bool, ◌&&◌, nat_lt, nat_le, List, [], ◌∷◌, ◌++◌, length, take, slice_index_or, if◌then◌else◌, Option, None, Some, Result, Ok, Err}
+use Rattle.std.specs.Prelude.{ℕ, ℤ, pos, negsuc, ◌+◌, ◌*◌, ◌/◌, ◌%◌, ◌<◌, ◌≤◌, ◌==◌, Bool, nat_lt, nat_le, List, [], ◌∷◌, length, take, slice_index_or, if◌then◌else◌, Option, None, Some, Result, Ok, Err}
 use Rattle.std.specs.List.{position, AllByRecursion}
 use Rattle.thrift_compact.specs.declared.faults.ThriftFault.{ThriftFault}
 use Rattle.thrift_compact.specs.declared.faults.ThriftFaultCode.{ThriftFaultCode}

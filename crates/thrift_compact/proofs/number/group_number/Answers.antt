@@ -1,6 +1,5 @@
-use Rattle.std.proofs.Common.{◌≡◌, ℕ, ◌+◌, ◌-◌, ◌*◌, ◌%◌, ◌<◌, ◌≤◌, length, drop, get_or, arith, subst}
+use Rattle.std.proofs.Common.{◌-◌, ◌≤◌, length, drop, arith}
 use Rattle.std.proofs.Math.ListN.{length-drop}
-use Rattle.thrift_compact.specs.Varints.{varint_number, low_groups}
 use Rattle.thrift_compact.proofs.VarintLemmas.{number_from_before, ten_groups}
 use Rattle.thrift_compact.proofs.number.group_number.Goals as goal
 

@@ -1,4 +1,4 @@
-use Rattle.std.proofs.Common.{◌≡◌, ◌^◌, ◌-◌, ◌+◌, ◌≤◌, length, ℕ, ◌*◌, ◌<◌, drop, List}
+use Rattle.std.proofs.Common.{◌≡◌, ◌^◌, ◌≤◌, length, ℕ, ◌<◌, drop, List}
 use Rattle.thrift_compact.specs.Varints.{varint_number, low_groups}
 use Rattle.thrift_compact.proofs.number.group_number.Given as goal
 

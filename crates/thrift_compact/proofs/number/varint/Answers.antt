@@ -1,4 +1,4 @@
-use Rattle.std.proofs.Common.{◌<◌, ◌^◌, ◌-◌, arith}
+use Rattle.std.proofs.Common.{◌^◌, ◌-◌, arith}
 use Rattle.thrift_compact.specs.Varints.{varint_at}
 use Rattle.thrift_compact.specs.Grammar.{SpellsVarint}
 use Rattle.thrift_compact.proofs.VarintLaws.{varint_found, varint_only}

@@ -1,4 +1,4 @@
-use Rattle.std.proofs.Common.{◌≡◌, ◌≤◌, ◌<◌, ◌+◌, ℕ, length, arith}
+use Rattle.std.proofs.Common.{◌≤◌, ◌<◌, length, arith}
 use Rattle.thrift_compact.proofs.RunLemmas.{ends_here, faults_here, steps_here}
 use Rattle.thrift_compact.proofs.skipping.skip_opened.Goals as goal
 

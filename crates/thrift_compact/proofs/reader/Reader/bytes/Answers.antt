@@ -1,9 +1,9 @@
-use Rattle.std.proofs.Common.{◌≡◌, ◌+◌, ◌<◌, ℕ, Ok, Err, ap, sym, ◌∙◌, refl, arith}
+use Rattle.std.proofs.Common.{◌+◌, ap, sym, ◌∙◌}
 use Rattle.thrift_compact.specs.Items.{byte_list_at}
 use Rattle.thrift_compact.specs.Grammar.{SpellsByteList}
 use Rattle.thrift_compact.proofs.ItemLaws.{byte_list_found, byte_list_only}
 use Rattle.thrift_compact.proofs.Clauses.{takes_by, no_front}
-use Rattle.thrift_compact.specs.States.{State, left}
+use Rattle.thrift_compact.specs.States.{left}
 use Rattle.thrift_compact.proofs.reader.Reader.bytes.Goals as goal
 
 pub returns-in-Ok-clause-found : goal.returns-in-Ok-clause-found

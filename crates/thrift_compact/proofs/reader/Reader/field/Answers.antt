@@ -1,11 +1,11 @@
-use Rattle.std.proofs.Common.{◌≡◌, ◌+◌, ◌<◌, ℕ, Ok, Err, ap, sym, ◌∙◌, refl, arith, w16, to_z, of_z}
+use Rattle.std.proofs.Common.{◌≡◌, ◌+◌, ap, sym, ◌∙◌, w16, to_z, of_z}
 use Rattle.std.proofs.lemmas.Int.{to_z-of_z}
 use Rattle.thrift_compact.specs.Opens.{last_number}
 use Rattle.thrift_compact.specs.Items.{header_at}
 use Rattle.thrift_compact.specs.Grammar.{SpellsHeader}
 use Rattle.thrift_compact.proofs.ItemLaws.{header_found, header_only}
 use Rattle.thrift_compact.proofs.Clauses.{takes_by, no_front}
-use Rattle.thrift_compact.specs.States.{State, left}
+use Rattle.thrift_compact.specs.States.{left}
 use Rattle.thrift_compact.proofs.reader.Reader.field.Goals as goal
 
 pub returns-in-Ok-clause-found : goal.returns-in-Ok-clause-found

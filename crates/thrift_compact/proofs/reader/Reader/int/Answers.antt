@@ -1,10 +1,10 @@
-use Rattle.std.proofs.Common.{◌≡◌, ◌+◌, ◌<◌, ℕ, Ok, Err, ap, sym, ◌∙◌, refl, arith, w64, to_z, of_z}
+use Rattle.std.proofs.Common.{◌+◌, ap, sym, ◌∙◌, w64}
 use Rattle.std.proofs.lemmas.Int.{to_z-of_z}
 use Rattle.thrift_compact.specs.Items.{number_at}
 use Rattle.thrift_compact.specs.Grammar.{SpellsNumber}
 use Rattle.thrift_compact.proofs.ItemLaws.{number_found, number_only}
 use Rattle.thrift_compact.proofs.Clauses.{takes_by, no_front}
-use Rattle.thrift_compact.specs.States.{State, left}
+use Rattle.thrift_compact.specs.States.{left}
 use Rattle.thrift_compact.proofs.reader.Reader.int.Goals as goal
 
 pub returns-in-Ok-clause-found : goal.returns-in-Ok-clause-found

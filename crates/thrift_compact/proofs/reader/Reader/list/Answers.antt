@@ -1,9 +1,9 @@
-use Rattle.std.proofs.Common.{length, ◌≡◌, ◌+◌, ◌<◌, ℕ, Ok, Err, ap, sym, ◌∙◌, refl, arith}
+use Rattle.std.proofs.Common.{length, ◌≡◌, ◌+◌, ap, sym, ◌∙◌, arith}
 use Rattle.thrift_compact.specs.Items.{list_header_at}
 use Rattle.thrift_compact.specs.Grammar.{SpellsListHeader}
 use Rattle.thrift_compact.proofs.ItemLaws.{list_header_found, list_header_only}
 use Rattle.thrift_compact.proofs.Clauses.{takes_by, no_front}
-use Rattle.thrift_compact.specs.States.{State, left}
+use Rattle.thrift_compact.specs.States.{left}
 use Rattle.thrift_compact.proofs.reader.Reader.list.Goals as goal
 
 pub returns-in-Ok-clause-found : goal.returns-in-Ok-clause-found

@@ -1,5 +1,5 @@
-use Rattle.std.proofs.Common.{◌≡◌, ◌+◌, ◌<◌, ℕ, Result, Ok, Err, ap, sym, ◌∙◌, refl, subst, arith}
-use Rattle.thrift_compact.specs.States.{State, left, SkipsTo, skipped}
+use Rattle.std.proofs.Common.{Result, Ok, Err, ap, ◌∙◌, refl, subst}
+use Rattle.thrift_compact.specs.States.{State, SkipsTo, skipped}
 use Rattle.thrift_compact.specs.Opens.{ended}
 use Rattle.thrift_compact.specs.declared.faults.ThriftFault.{ThriftFault}
 use Rattle.thrift_compact.specs.Varints.{IsBytes}

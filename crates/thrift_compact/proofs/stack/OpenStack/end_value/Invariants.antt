@@ -1,4 +1,4 @@
-use Rattle.std.proofs.Common.{◌≡◌, ◌≤◌, length, ℕ}
+use Rattle.std.proofs.Common.{◌≡◌, ◌≤◌, length}
 use Rattle.thrift_compact.specs.Opens.{ended}
 use Rattle.thrift_compact.proofs.stack.OpenStack.end_value.Given as goal
 

@@ -1,4 +1,4 @@
-use Rattle.std.proofs.Common.{◌<◌, ◌≡◌, length, arith}
+use Rattle.std.proofs.Common.{◌<◌, length, arith}
 use Rattle.thrift_compact.proofs.StackLemmas.{stack_push, stack_len}
 use Rattle.thrift_compact.proofs.stack.OpenStack.push.Goals as goal
 

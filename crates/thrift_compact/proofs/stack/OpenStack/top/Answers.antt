@@ -1,4 +1,3 @@
-use Rattle.std.proofs.Common.{◌≤◌, length, arith}
 use Rattle.thrift_compact.proofs.StackLemmas.{stack_len}
 use Rattle.thrift_compact.proofs.stack.OpenStack.top.Goals as goal
 
