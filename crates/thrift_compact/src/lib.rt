@@ -17,4 +17,3 @@ pub use crate::faults::{ThriftFault, ThriftFaultCode};
 pub use crate::kinds::Kind;
 pub use crate::number::varint;
 pub use crate::reader::Reader;
-pub use crate::stack::Open;
