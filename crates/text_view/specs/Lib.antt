@@ -1,1 +1,5 @@
+pub mod JsonString
+pub mod QuotedField
 pub mod Room
+pub mod Spelled
+pub mod Trimmed

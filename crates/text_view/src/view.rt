@@ -1,0 +1,6 @@
+#[derive(Clone, Copy, PartialEq, Eq, Debug)]
+pub enum Side {
+    Leading,
+    Trailing,
+    Both,
+}
