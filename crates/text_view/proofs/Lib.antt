@@ -1,3 +1,5 @@
+pub mod CodePoints
 pub mod Escapes
 pub mod Shown
+pub mod Sizes
 pub mod Trims

@@ -5,7 +5,7 @@ use Rattle.text_view.specs.Trimmed.{contains, without_leading, without_trailing}
 use Rattle.text_view.specs.Spelled.{kept_after}
 
 -- a character before what is kept of the others
-pub onto : List ℕ → ℕ → List ℕ → List ℕ
+unfoldable pub onto : List ℕ → ℕ → List ℕ → List ℕ
 onto s c [] = cond (contains s c) [] (c ∷ [])
 onto s c (d ∷ ds) = c ∷ d ∷ ds
 
@@ -19,7 +19,7 @@ onto_join s c [] = refl
 onto_join s c (d ∷ ds) = refl
 
 -- the same from the front
-pub ended : List ℕ → List ℕ → List ℕ
+unfoldable pub ended : List ℕ → List ℕ → List ℕ
 ended s [] = []
 ended s (c ∷ cs) = onto s c (ended s cs)
 

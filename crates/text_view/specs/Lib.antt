@@ -1,3 +1,4 @@
+pub mod Held
 pub mod JsonString
 pub mod QuotedField
 pub mod Room

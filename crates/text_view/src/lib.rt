@@ -7,3 +7,4 @@ mod output;
 mod view;
 
 pub use crate::output::{Buf, Full};
+pub use crate::view::{Chars, Side, Text};
