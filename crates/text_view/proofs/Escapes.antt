@@ -42,9 +42,12 @@ unescaped_cons c cs = ap (λ t. (take_char c cs).character ∷ t) (unescaped_pas
 differs : (c : ℕ) → c ≢ 92 → (c == 92) ≡ false
 differs c h = grind (arith, nat_tests)
 
+pub unescaped_by_test : (c : ℕ) (cs : List ℕ) → (c == 92) ≡ false → unescaped_text (c ∷ cs) ≡ c ∷ unescaped_text cs
+unescaped_by_test c cs e =
+    unescaped_cons c cs ∙ ap (λ b. (cond b (take_escape cs) (record { character = c; further = 0 })).character ∷ unescaped_text (drop (cond b (take_escape cs) (record { character = c; further = 0 })).further cs)) e
+
 pub unescaped_other : (c : ℕ) (cs : List ℕ) → c ≢ 92 → unescaped_text (c ∷ cs) ≡ c ∷ unescaped_text cs
-unescaped_other c cs h =
-    unescaped_cons c cs ∙ ap (λ b. (cond b (take_escape cs) (record { character = c; further = 0 })).character ∷ unescaped_text (drop (cond b (take_escape cs) (record { character = c; further = 0 })).further cs)) (differs c h)
+unescaped_other c cs h = unescaped_by_test c cs (differs c h)
 
 pub ruleset json_steps = (unescaped_nil, unescaped_cons, unescaped_other)
 

@@ -1,5 +1,5 @@
 -- A place in a lent text: which characters are still to come.
-use Rattle.std.specs.Prelude.{ℕ, ◌+◌, List, [], ◌∷◌, map, take, if◌then◌else◌}
+use Rattle.std.specs.Prelude.{ℕ, ◌+◌, Bool, false, ◌==◌, ◌||◌, List, [], ◌∷◌, map, take, if◌then◌else◌}
 use Rattle.std.specs.Str.{chars}
 use Rattle.std.specs.Char.{to_ascii_uppercase, to_ascii_lowercase}
 use Rattle.text_view.specs.declared.cursor.Escape.{Escape}
@@ -38,3 +38,9 @@ kept_after set kept passed [] = kept
 kept_after set kept passed (c ∷ cs) =
     if contains set c then kept_after set kept (passed + 1) cs
     else kept_after set (passed + 1) (passed + 1) cs
+
+-- the character may begin an escape or end the part that has escapes
+abbrev pub special : Escape → ℕ → Bool
+special Plain c = false
+special (Quoted quote escape) c = c == quote || c == escape
+special Json c = c == 92

@@ -159,7 +159,8 @@ fn json_step(text: &str) -> Option<Step<'_>>
 impl<'r> Cursor<'r> {
     /// All characters of a text as it is.
     pub(crate) fn plain(text: &'r str) -> Cursor<'r>
-        ensures { seen result ≡ chars text.now }
+        ensures value { seen result ≡ chars text.now }
+        ensures same { result.rest.now ≡ text.now }
     {
         Cursor::spelled(text, Escape::Plain)
     }
@@ -167,7 +168,8 @@ impl<'r> Cursor<'r> {
     /// All characters that `text` spells.
     #[tactic(auto, using(crate::proofs::Shown::shown_spelled))]
     pub(crate) fn spelled(text: &'r str, escape: Escape) -> Cursor<'r>
-        ensures { seen result ≡ spelled escape (chars text.now) }
+        ensures value { seen result ≡ spelled escape (chars text.now) }
+        ensures same { result.rest.now ≡ text.now }
     {
         let limit = text.as_bytes().len() as u64;
         Cursor {

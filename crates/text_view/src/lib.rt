@@ -3,8 +3,13 @@
 
 mod cursor;
 mod json;
+mod like;
 mod output;
+mod pieces;
+#[cfg(test)]
+mod tests;
 mod view;
 
+pub use crate::like::Pattern;
 pub use crate::output::{Buf, Full};
 pub use crate::view::{Chars, Side, Text};

@@ -11,6 +11,8 @@ ghost use Rattle.text_view.specs.JsonString.{Piece, IsPiece, print_pieces, piece
 ghost use Rattle.text_view.specs.Spelled.{seen};
 
 use crate::cursor::{Cursor, Escape};
+use crate::output::{Buf, Full};
+use crate::pieces::write_all;
 use arrayvec::ArrayString;
 use std::cmp::Ordering;
 use std::marker::Model;
@@ -191,6 +193,17 @@ impl<'r> Text<'r> {
             Kind::Lent(cursor) => Text::lent(cursor.lower()),
             Kind::Short(text) => Text::short(copied(Cursor::plain(text.as_str()).lower())),
         }
+    }
+
+    /// Appends the text in UTF-8, or nothing where it doesn't fit.
+    pub fn write_to(&self, out: &mut Buf) -> Result<(), Full>
+        ensures fits { IsOk result
+            ↔ (length out.old.bytes + length (encode_utf8_all self.now) ≤ out.old.room) }
+        ensures ok { OnOk result (out.new
+            ≡ record out.old { bytes = out.old.bytes ++ encode_utf8_all self.now }) }
+        ensures full { OnErr result (out.new ≡ out.old) }
+    {
+        write_all(self.cursor(), out)
     }
 }
 
