@@ -1,5 +1,6 @@
 pub mod CodePoints
 pub mod Escapes
+pub mod Grammars
 pub mod Likes
 pub mod Patterns
 pub mod Runs

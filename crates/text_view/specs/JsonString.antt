@@ -83,6 +83,21 @@ piece_value (short c) = letter_value c
 piece_value (code h) = hex_value h
 piece_value (pair h l) = pair_value (hex_value h) (hex_value l)
 
+abbrev pub pieces_text : List Piece → List ℕ
+pieces_text [] = []
+pieces_text (p ∷ ps) = piece_value p ∷ pieces_text ps
+
+abbrev pub ArePieces : List Piece → Type 0
+ArePieces [] = Unit {0}
+ArePieces (p ∷ ps) = IsPiece p × ArePieces ps
+
+-- the inside of a string spells the text
+pub record SpellsString (raw text : List ℕ) : Type 0 where
+  pub pieces : List Piece
+  pub valid : ArePieces pieces
+  pub spelled : raw ≡ print_pieces pieces
+  pub meant : text ≡ pieces_text pieces
+
 -- ---- the same, read from the left, at any characters: a reverse solidus that begins no escape stands for itself
 
 -- a character, and how many further ones were taken for it

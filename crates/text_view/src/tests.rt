@@ -39,6 +39,7 @@ fn escapes(rt: HostRuntime) -> Result<(), Fail> {
         ("é\\\\\"", b'\\', "é\\"),
     ];
     for (raw, escape, wanted) in fields {
+        assert!(rt; escape < 128);
         shows(rt.alloc(), &rt, &Text::quoted(raw, b'"', escape), wanted)?;
     }
     Ok(())
@@ -69,6 +70,7 @@ fn patterns(rt: HostRuntime) -> Result<(), Fail> {
         ("x", "%%_%%", true),
     ];
     for (text, pattern, wanted) in cases {
+        assert!(rt; Pattern::fits(pattern, Some('!')), "{pattern}");
         let made = Pattern::make(rt.alloc(), pattern, Some('!'))?;
         assert!(rt; made.matches(&Text::plain(text)) == wanted, "{text} LIKE {pattern}");
     }

@@ -1,13 +1,13 @@
 //! Texts: lists of characters that are lent through escapes, or held where they are short.
-ghost use Rattle.std.specs.Prelude.{◌≡◌, ◌+◌, ◌<◌, ◌≤◌, ℕ, List, [], ◌∷◌, length, take, drop, map, All, IsOk, OnOk, OnErr, ◌↔◌, ◌++◌};
+ghost use Rattle.std.specs.Prelude.{◌≡◌, ◌+◌, ◌<◌, ◌≤◌, ℕ, List, [], ◌∷◌, length, take, drop, map, IsOk, OnOk, OnErr, ◌↔◌, ◌++◌};
 ghost use Rattle.std.specs.Str.{chars, encode_utf8_all};
 ghost use Rattle.std.specs.Char.{to_ascii_uppercase, to_ascii_lowercase};
 ghost use Rattle.std.specs.Iterator.{YieldsFirst, item_count};
 ghost use Rattle.std.specs.Ordering.{nat_cmp};
 ghost use Rattle.std.specs.Cmp.Lexicographic.{slice_cmp};
 ghost use Rattle.text_view.specs.Trimmed.{trimmed};
-ghost use Rattle.text_view.specs.QuotedField.{unquoted};
-ghost use Rattle.text_view.specs.JsonString.{Piece, IsPiece, print_pieces, piece_value, unescaped_text};
+ghost use Rattle.text_view.specs.QuotedField.{unquoted, StandsFor};
+ghost use Rattle.text_view.specs.JsonString.{SpellsString, unescaped_text};
 ghost use Rattle.text_view.specs.Spelled.{seen};
 
 use crate::cursor::{Cursor, Escape};
@@ -75,14 +75,20 @@ impl<'r> Text<'r> {
     pub fn quoted(raw: &'r str, quote: u8, escape: u8) -> Text<'r>
         requires quote { quote < 128 }
         requires escape { escape < 128 }
-        ensures { result ≡ unquoted quote escape (chars raw.now) }
+        ensures value { result ≡ unquoted quote escape (chars raw.now) }
+
+        // The characters stand for this text in the grammar, and for no other.
+        ensures stands { StandsFor quote escape (chars raw.now) result }
+        ensures alone { (text : List ℕ) → StandsFor quote escape (chars raw.now) text → result ≡ text }
     {
         Text::lent(Cursor::spelled(raw, Escape::Quoted { quote, escape }))
     }
 
-    /// The inside of a JSON string (RFC 8259, section 7).
+    /// The inside of a JSON string (RFC 8259, section 7). A reverse solidus that begins no escape
+    /// stands for itself, which no checked string has.
     pub fn json(raw: &'r str) -> Text<'r>
         ensures value { result ≡ unescaped_text (chars raw.now) }
+        ensures grammar { (text : List ℕ) → SpellsString (chars raw.now) text → result ≡ text }
     {
         Text::lent(Cursor::spelled(raw, Escape::Json))
     }
