@@ -1,5 +1,5 @@
 -- The order of UTF-8 bytes is the order of code points.
-use Rattle.std.proofs.Common.{◌≡◌, ℕ, zero, suc, ◌+◌, ◌-◌, ◌*◌, ◌/◌, ◌%◌, ◌≤◌, ◌<◌, ◌⊎◌, inl, inr, Bool, true, false, cond, List, [], ◌∷◌, ◌++◌, length, refl, sym, ◌∙◌, ap, subst, arith, nat_lt}
+use Rattle.std.proofs.Common.{◌≡◌, ℕ, ◌+◌, ◌/◌, ◌%◌, ◌≤◌, ◌<◌, inl, inr, true, false, List, [], ◌∷◌, ◌++◌, refl, sym, ◌∙◌, ap, arith, nat_lt}
 use Rattle.std.proofs.lemmas.Bool.{cases_lt}
 use Rattle.std.proofs.lemmas.Bool.Decides.{nat_tests}
 use Rattle.std.proofs.lemmas.Str.{encodes-chars}
@@ -28,29 +28,29 @@ is_equal x = grind (arith, nat_tests)
 
 shifted : (k x y : ℕ) → nat_cmp (k + x) (k + y) ≡ nat_cmp x y
 shifted k x y = elim (cases_lt x y) [
-    inl h ↦ is_less (k + x) (k + y) (omega arith) ∙ sym (is_less x y h)
+  | inl h ↦ is_less (k + x) (k + y) (omega arith) ∙ sym (is_less x y h)
   | inr h ↦ elim (cases_lt y x) [
-      inl g ↦ is_greater (k + x) (k + y) (omega arith) ∙ sym (is_greater x y g)
+    | inl g ↦ is_greater (k + x) (k + y) (omega arith) ∙ sym (is_greater x y g)
     | inr g ↦ let e : x ≡ y = omega arith in rw e (is_equal (k + y) ∙ sym (is_equal y))
-    ]
+  ]
 ]
 
 same_digit : (c d : ℕ) → c / 64 ≡ d / 64 → nat_cmp (c % 64) (d % 64) ≡ nat_cmp c d
 same_digit c d e = elim (cases_lt c d) [
-    inl h ↦ is_less (c % 64) (d % 64) (omega arith) ∙ sym (is_less c d h)
+  | inl h ↦ is_less (c % 64) (d % 64) (omega arith) ∙ sym (is_less c d h)
   | inr h ↦ elim (cases_lt d c) [
-      inl g ↦ is_greater (c % 64) (d % 64) (omega arith) ∙ sym (is_greater c d g)
+    | inl g ↦ is_greater (c % 64) (d % 64) (omega arith) ∙ sym (is_greater c d g)
     | inr g ↦ let s : c ≡ d = omega arith in rw s (is_equal (d % 64) ∙ sym (is_equal d))
-    ]
+  ]
 ]
 
 digits : (c d : ℕ) → ordering_then (nat_cmp (c / 64) (d / 64)) (nat_cmp (c % 64) (d % 64)) ≡ nat_cmp c d
 digits c d = elim (cases_lt (c / 64) (d / 64)) [
-    inl h ↦ rw (is_less (c / 64) (d / 64) h) (sym (is_less c d (omega arith)))
+  | inl h ↦ rw (is_less (c / 64) (d / 64) h) (sym (is_less c d (omega arith)))
   | inr h ↦ elim (cases_lt (d / 64) (c / 64)) [
-      inl g ↦ rw (is_greater (c / 64) (d / 64) g) (sym (is_greater c d (omega arith)))
+    | inl g ↦ rw (is_greater (c / 64) (d / 64) g) (sym (is_greater c d (omega arith)))
     | inr g ↦ let e : c / 64 ≡ d / 64 = omega arith in ap (λ o. ordering_then o (nat_cmp (c % 64) (d % 64))) (ap (λ n. nat_cmp n (d / 64)) e ∙ is_equal (d / 64)) ∙ same_digit c d e
-    ]
+  ]
 ]
 
 -- the last digit, behind the others
@@ -81,11 +81,11 @@ data Width : ℕ → Type 0 where
 
 width : (c : ℕ) → Width c
 width c = elim (cases_lt c 128) [
-    inl h ↦ one h
+  | inl h ↦ one h
   | inr h ↦ elim (cases_lt c 2048) [
-      inl g ↦ two h g
+    | inl g ↦ two h g
     | inr g ↦ elim (cases_lt c 65536) [ inl f ↦ three g f | inr f ↦ four f ]
-    ]
+  ]
 ]
 
 encode_one : (c : ℕ) → c < 128 → encode c ≡ c ∷ []

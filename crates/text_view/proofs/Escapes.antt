@@ -1,12 +1,12 @@
 -- Steps over the escapes of JSON strings and of quoted CSV fields.
-use Rattle.std.proofs.Common.{◌≡◌, ℕ, zero, suc, ◌+◌, ◌*◌, ◌<◌, Bool, true, false, cond, List, [], ◌∷◌, drop, refl, sym, ◌∙◌, ap, subst, arith, nat_lt, ◌==◌, ◌&&◌, slice_index, length}
+use Rattle.std.proofs.Common.{◌≡◌, ℕ, zero, suc, ◌+◌, ◌*◌, Bool, true, false, cond, List, [], ◌∷◌, drop, refl, sym, ◌∙◌, ap, subst, arith, nat_lt, ◌==◌, ◌&&◌, slice_index, length}
 use Rattle.std.proofs.Common.{◌-◌, ◌≤◌, ◌≢◌, Option, Some, None, Bor, MatchOption}
 use Rattle.std.proofs.lemmas.Bool.Decides.{nat_tests}
 use Rattle.std.proofs.lemmas.List.{drop-drop}
 use Rattle.std.specs.Str.{chars}
 use Rattle.std.specs.Char.{digit_value}
 use Rattle.text_view.specs.QuotedField.{unquoted, unquoted_after, begins_special}
-use Rattle.text_view.specs.JsonString.{has_code, hex_in, hex_value, is_hex, take_escape, take_code, take_char, take_letter, Taken, unescaped_after, unescaped_text, solidus_alone}
+use Rattle.text_view.specs.JsonString.{has_code, hex_in, hex_value, take_escape, take_code, take_char, Taken, unescaped_after, unescaped_text, solidus_alone}
 
 -- ---- quoted fields
 

@@ -1,9 +1,9 @@
 -- What is read from the left is what the grammars say.
-use Rattle.std.proofs.Common.{◌≡◌, ◌≢◌, ℕ, zero, suc, ◌+◌, ◌≤◌, ◌<◌, Bool, true, false, cond, ◌&&◌, ◌||◌, ◌==◌, not, List, [], ◌∷◌, ◌++◌, drop, length, slice_index, refl, sym, ◌∙◌, ap, subst, arith, IsTrue}
+use Rattle.std.proofs.Common.{◌≡◌, ◌≢◌, ℕ, zero, suc, ◌≤◌, Bool, true, false, cond, ◌&&◌, ◌||◌, ◌==◌, not, List, [], ◌∷◌, ◌++◌, drop, length, slice_index, refl, sym, ◌∙◌, ap, subst, arith}
 use Rattle.std.proofs.lemmas.Bool.Decides.{nat_tests}
 use Rattle.std.proofs.lemmas.List.{append-nil}
 use Rattle.text_view.specs.QuotedField.{unquoted, begins_special, FieldPiece, escaped, single, print_field, field_text, AreFieldPieces, StandsFor, closed, unclosed}
-use Rattle.text_view.specs.JsonString.{Hex, is_hex, hex_value, is_high_surrogate, is_low_surrogate, pair_value, is_letter, letter_value, Piece, unescaped, short, code, pair, print_pieces, pieces_text, ArePieces, SpellsString, has_code, take_code, take_pair, take_letter, take_escape, Taken, unescaped_text, solidus_alone}
+use Rattle.text_view.specs.JsonString.{Hex, is_hex, hex_value, is_high_surrogate, is_low_surrogate, pair_value, is_letter, letter_value, Piece, unescaped, short, code, pair, print_pieces, pieces_text, ArePieces, SpellsString, take_code, take_pair, take_letter, take_escape, Taken, unescaped_text, solidus_alone}
 use Rattle.text_view.proofs.Escapes.{unquoted_nil, unquoted_cons, unescaped_nil, unescaped_cons, unescaped_other}
 
 eq_self : (c : ℕ) → (c == c) ≡ true
@@ -169,11 +169,11 @@ pieces_read (short c ∷ ps) h =
     ∙ ap (λ l. letter_value c ∷ l) (pieces_read ps h.1)
 pieces_read (code x ∷ ps) h =
     by_taken (117 ∷ x.first ∷ x.second ∷ x.third ∷ x.fourth ∷ print_pieces ps) (print_pieces ps) (record { character = hex_value x; further = 5 })
-      (taken_code x (print_pieces ps) h.0.0 ∙ taken_alone (hex_value x) (print_pieces ps) (neither_high _ _ h.0.1) (neither_low _ _ h.0.1)) refl
+    (taken_code x (print_pieces ps) h.0.0 ∙ taken_alone (hex_value x) (print_pieces ps) (neither_high _ _ h.0.1) (neither_low _ _ h.0.1)) refl
     ∙ ap (λ l. hex_value x ∷ l) (pieces_read ps h.1)
 pieces_read (pair x y ∷ ps) h =
     by_taken (117 ∷ x.first ∷ x.second ∷ x.third ∷ x.fourth ∷ 92 ∷ 117 ∷ y.first ∷ y.second ∷ y.third ∷ y.fourth ∷ print_pieces ps) (print_pieces ps) (record { character = pair_value (hex_value x) (hex_value y); further = 11 })
-      (taken_code x (92 ∷ 117 ∷ y.first ∷ y.second ∷ y.third ∷ y.fourth ∷ print_pieces ps) h.0.0.0 ∙ taken_pair (hex_value x) y (print_pieces ps) h.0.1.0 h.0.0.1 h.0.1.1) refl
+    (taken_code x (92 ∷ 117 ∷ y.first ∷ y.second ∷ y.third ∷ y.fourth ∷ print_pieces ps) h.0.0.0 ∙ taken_pair (hex_value x) y (print_pieces ps) h.0.1.0 h.0.0.1 h.0.1.1) refl
     ∙ ap (λ l. pair_value (hex_value x) (hex_value y) ∷ l) (pieces_read ps h.1)
 
 pub string_read : (raw text : List ℕ) → SpellsString raw text → unescaped_text raw ≡ text

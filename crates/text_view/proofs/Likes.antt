@@ -1,7 +1,7 @@
 -- LIKE as a test says whether a text splits, and a search from the left that goes back to the last "%"
 -- alone decides it.
-use Rattle.std.proofs.Common.{◌≡◌, ℕ, zero, suc, ◌+◌, ◌≤◌, ◌<◌, Bool, true, false, cond, ◌&&◌, ◌||◌, ◌==◌, List, [], ◌∷◌, ◌++◌, drop, length, refl, sym, ◌∙◌, ap, subst, arith, ◌⊎◌, inl, inr}
-use Rattle.std.proofs.Common.{add-one, Some, None, take}
+use Rattle.std.proofs.Common.{◌≡◌, ℕ, zero, suc, Bool, true, false, cond, ◌&&◌, ◌||◌, ◌==◌, List, [], ◌∷◌, ◌++◌, drop, length, refl, sym, ◌∙◌, ap, subst, arith, ◌⊎◌, inl, inr}
+use Rattle.std.proofs.Common.{add-one, Some, take}
 use Rattle.std.proofs.lemmas.Bool.Decides.{nat_tests}
 use Rattle.std.proofs.lemmas.List.{drop-drop, take-append-drop}
 use Rattle.std.proofs.lemmas.Str.{chars-append, IsUtf8-take}
@@ -11,8 +11,8 @@ use Rattle.memchr.specs.Find.{is_byte}
 use Rattle.text_view.specs.Writing.{StandsForItself}
 use Rattle.text_view.specs.declared.like.Part.{Part}
 use Rattle.text_view.specs.declared.like.Part.TheVariants.{Char, One, Any}
-use Rattle.text_view.specs.LikePattern.{Matches, FitParts, FitsPart, joined}
-use Rattle.text_view.specs.Finding.{some_end, fits_one, part_then, like, like_end, Found, nothing, end, any, find_from, find_parts}
+use Rattle.text_view.specs.LikePattern.{Matches, FitParts, joined}
+use Rattle.text_view.specs.Finding.{some_end, fits_one, part_then, like, like_end, Found, nothing, end, any, find_parts}
 
 -- ---- ends of a text
 
@@ -69,9 +69,9 @@ record EndAt (f : List ℕ → Bool) (cs : List ℕ) : Type 0 where
 end_at : (f : List ℕ → Bool) (cs : List ℕ) → some_end f cs ≡ true → EndAt f cs
 end_at f [] e = record { front = []; back = []; whole = refl; place = 0; there = refl; passes = e }
 end_at f (c ∷ cs) e = elim (or_cases (f (c ∷ cs)) (some_end f cs) e) [
-    inl h ↦ record { front = []; back = c ∷ cs; whole = refl; place = 0; there = refl; passes = h }
+  | inl h ↦ record { front = []; back = c ∷ cs; whole = refl; place = 0; there = refl; passes = h }
   | inr h ↦ later c (end_at f cs h)
-  ]
+]
   where
     later : (c : ℕ) → EndAt f cs → EndAt f (c ∷ cs)
     later c r = record { front = c ∷ r.front; back = r.back; whole = ap (λ l. c ∷ l) r.whole; place = suc r.place; there = r.there; passes = r.passes }
@@ -210,7 +210,7 @@ find_later (Any ∷ parts) cs qs us e k h =
 find_later (Char w ∷ parts) [] qs us e k h = absurd (cc)
 find_later (Char w ∷ parts) (c ∷ cs) qs us e k h =
     find_later parts cs qs us (found_later (c == w) (find_parts parts cs) qs us e) k
-      (at_drop (like parts) k c cs (char_tail w (like parts) (drop k (c ∷ cs)) h))
+    (at_drop (like parts) k c cs (char_tail w (like parts) (drop k (c ∷ cs)) h))
 find_later (One ∷ parts) [] qs us e k h = absurd (cc)
 find_later (One ∷ parts) (c ∷ cs) qs us e k h =
     find_later parts cs qs us e k (at_drop (like parts) k c cs (one_tail (like parts) (drop k (c ∷ cs)) h))

@@ -1,10 +1,10 @@
 -- Patterns, read one part at a time.
-use Rattle.std.proofs.Common.{◌≡◌, ◌≢◌, ℕ, Bool, true, false, cond, ◌||◌, ◌==◌, List, [], ◌∷◌, Option, Some, None, ◌++◌, refl, sym, ◌∙◌, ap, arith}
+use Rattle.std.proofs.Common.{◌≡◌, ℕ, true, false, cond, List, [], ◌∷◌, Option, Some, None, ◌++◌, refl, ◌∙◌, ap}
 use Rattle.std.proofs.lemmas.List.{append-nil}
 use Rattle.std.specs.Option.{option_map}
 use Rattle.text_view.specs.declared.like.Part.{Part}
-use Rattle.text_view.specs.declared.like.Part.TheVariants.{Char, One, Any}
-use Rattle.text_view.specs.LikePattern.{pattern_parts, parts_after, is_escape, may_follow, part_of}
+use Rattle.text_view.specs.declared.like.Part.TheVariants.{Char}
+use Rattle.text_view.specs.LikePattern.{pattern_parts, is_escape, may_follow, part_of}
 
 pub pattern_nil : (e : Option ℕ) → pattern_parts e [] ≡ Some []
 unfolding pattern_parts

@@ -1,18 +1,18 @@
 -- Runs of characters that stand for themselves, in bytes and in characters.
-use Rattle.std.proofs.Common.{◌≡◌, ℕ, zero, suc, ◌+◌, ◌-◌, ◌≤◌, ◌<◌, Bool, true, false, cond, ◌&&◌, ◌||◌, ◌==◌, List, [], ◌∷◌, ◌++◌, map, take, drop, length, refl, sym, ◌∙◌, ap, subst, arith, length-append, append_assoc, slice_index, get_or, slice_range}
+use Rattle.std.proofs.Common.{◌≡◌, ℕ, zero, suc, ◌+◌, ◌-◌, ◌≤◌, ◌<◌, Bool, true, false, ◌||◌, ◌==◌, List, [], ◌∷◌, ◌++◌, take, drop, length, refl, sym, ◌∙◌, ap, subst, arith, length-append, slice_index, slice_range}
 use Rattle.std.proofs.lemmas.Bool.Decides.{nat_tests}
 use Rattle.std.proofs.lemmas.List.{take-append-drop, append-nil, take_all}
-use Rattle.std.proofs.lemmas.Str.{encodes-chars, encodes-append, encode_ascii, chars-append, scalars-chars, IsUtf8-take, IsUtf8-drop, chars-nil, IsCharBoundary-before_ascii, IsCharBoundary-end, IsCharBoundary-start}
+use Rattle.std.proofs.lemmas.Str.{encodes-chars, encodes-append, encode_ascii, chars-append, IsUtf8-take, IsUtf8-drop, chars-nil, IsCharBoundary-before_ascii, IsCharBoundary-end, IsCharBoundary-start}
 use Rattle.std.specs.Str.{chars, encode_utf8_all, IsUtf8, IsCharBoundary, NonePass}
 use Rattle.memchr.specs.Find.{is_byte, is_byte2, Passes, Nowhere, NoneBefore}
 use Rattle.text_view.specs.Writing.{StandsForItself, WritesFront}
 use Rattle.std.specs.Char.{encode_utf8}
 use Rattle.text_view.specs.declared.cursor.Case.{Case}
-use Rattle.text_view.specs.declared.cursor.Case.TheVariants.{Kept, Upper, Lower}
+use Rattle.text_view.specs.declared.cursor.Case.TheVariants.{Kept}
 use Rattle.text_view.specs.declared.cursor.Escape.{Escape}
 use Rattle.text_view.specs.declared.cursor.Escape.TheVariants.{Plain, Quoted, Json}
-use Rattle.text_view.specs.QuotedField.{unquoted, begins_special}
-use Rattle.text_view.specs.JsonString.{unescaped_text, take_char, take_escape}
+use Rattle.text_view.specs.QuotedField.{unquoted}
+use Rattle.text_view.specs.JsonString.{unescaped_text}
 use Rattle.text_view.specs.Spelled.{shown, spelled, special}
 use Rattle.text_view.specs.Room.{Room}
 use Rattle.text_view.proofs.Escapes.{unquoted_nil, unescaped_nil, unquoted_cons, unescaped_by_test}
@@ -39,9 +39,10 @@ fails_here p c false e low h = e
 
 none_in : (p : ℕ → Bool) → ((c : ℕ) → p c ≡ true → c < 128) → (cs : List ℕ) → NonePass p (encode_utf8_all cs) → NonePass p cs
 none_in p low [] h = tt
-none_in p low (c ∷ cs) h =
-    ( fails_here p c (p c) refl (low c) (none_left p (encode_utf8 c) (encode_utf8_all cs) h)
-    , none_in p low cs (none_right p (encode_utf8 c) (encode_utf8_all cs) h))
+none_in p low (c ∷ cs) h = (
+  fails_here p c (p c) refl (low c) (none_left p (encode_utf8 c) (encode_utf8_all cs) h),
+  none_in p low cs (none_right p (encode_utf8 c) (encode_utf8_all cs) h),
+)
 
 -- no byte passes: no character does
 none_passes : (p : ℕ → Bool) (bs : List ℕ) → ((c : ℕ) → p c ≡ true → c < 128) → IsUtf8 bs → NonePass p bs → NonePass p (chars bs)
@@ -142,7 +143,7 @@ run_written e n limit bs u room run =
     let split : spelled e (chars bs) ≡ chars (take n bs) ++ spelled e (chars (drop n bs)) = ap (spelled e) whole ∙ spelled_run e (chars (take n bs)) (chars (drop n bs)) run.own in
     let left : shown Kept limit (spelled e (chars bs)) ≡ spelled e (chars bs) = shown_all limit (spelled e (chars bs)) (omega (arith, length_spelled e (chars bs), length_chars bs u)) in
     let right : shown Kept limit (spelled e (chars (drop n bs))) ≡ spelled e (chars (drop n bs)) =
-        shown_all limit (spelled e (chars (drop n bs))) (omega (arith, length_spelled e (chars (drop n bs)), length_chars (drop n bs) back, ap length (take-append-drop n bs), length-append (take n bs) (drop n bs))) in
+    shown_all limit (spelled e (chars (drop n bs))) (omega (arith, length_spelled e (chars (drop n bs)), length_chars (drop n bs) back, ap length (take-append-drop n bs), length-append (take n bs) (drop n bs))) in
     rw (left, right, split) (encodes-append (chars (take n bs)) (spelled e (chars (drop n bs))) ∙ ap (λ t. t ++ encode_utf8_all (spelled e (chars (drop n bs)))) (encodes-chars (take n bs) front))
 
 -- ---- a text that is written in pieces

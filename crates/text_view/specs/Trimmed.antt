@@ -1,5 +1,5 @@
 -- A text without the characters of a set at its sides.
-use Rattle.std.specs.Prelude.{ℕ, ◌+◌, Bool, ◌==◌, List, [], ◌∷◌, reverse, if◌then◌else◌}
+use Rattle.std.specs.Prelude.{ℕ, Bool, ◌==◌, List, [], ◌∷◌, reverse, if◌then◌else◌}
 use Rattle.std.specs.List.{list_any}
 use Rattle.text_view.specs.declared.view.Side.{Side}
 use Rattle.text_view.specs.declared.view.Side.TheVariants.{Leading, Trailing, Both}

@@ -107,7 +107,7 @@ fn fits_text(parts: &[Part], text: Cursor<'_>) -> bool
 fn read_part(first: char, behind: &str, escape: Option<char>) -> Option<(Part, &str)>
     ensures value { MatchOption result (pattern_parts escape (first ∷ chars behind.now) ≡ None)
         (λ p. pattern_parts escape (first ∷ chars behind.now)
-            ≡ option_map (λ parts. p.0 ∷ parts) (pattern_parts escape (chars p.1.now))) }
+        ≡ option_map (λ parts. p.0 ∷ parts) (pattern_parts escape (chars p.1.now))) }
     ensures shorter { MatchOption result ⊤ (λ p. length p.1.now ≤ length behind.now) }
 {
     if !escapes(escape, first) {

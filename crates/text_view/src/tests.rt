@@ -72,7 +72,10 @@ fn patterns(rt: HostRuntime) -> Result<(), Fail> {
     for (text, pattern, wanted) in cases {
         assert!(rt; Pattern::fits(pattern, Some('!')), "{pattern}");
         let made = Pattern::make(rt.alloc(), pattern, Some('!'))?;
-        assert!(rt; made.matches(&Text::plain(text)) == wanted, "{text} LIKE {pattern}");
+        assert!(rt;
+            made.matches(&Text::plain(text)) == wanted,
+            "{text} LIKE {pattern}"
+        );
     }
     assert!(rt; Pattern::fits("50!%", Some('!')));
     assert!(rt; !Pattern::fits("50!x", Some('!')));
@@ -91,8 +94,18 @@ fn calls(rt: HostRuntime) -> Result<(), Fail> {
     let trimmed = text.trim(Side::Both, &space);
     shows(rt.alloc(), &rt, &trimmed.upper(), "STRAßE")?;
     shows(rt.alloc(), &rt, &trimmed.sub(4, 9).lower(), "ße")?;
-    shows(rt.alloc(), &rt, &text.trim(Side::Leading, &space), "Straße ")?;
-    shows(rt.alloc(), &rt, &text.trim(Side::Trailing, &space), "  Straße")?;
+    shows(
+        rt.alloc(),
+        &rt,
+        &text.trim(Side::Leading, &space),
+        "Straße ",
+    )?;
+    shows(
+        rt.alloc(),
+        &rt,
+        &text.trim(Side::Trailing, &space),
+        "  Straße",
+    )?;
     assert!(rt; trimmed.len_chars() == 6);
     assert!(rt; trimmed.chars().next() == Some('S'));
     assert!(rt; text.compare(&trimmed).is_lt());

@@ -1,4 +1,3 @@
-use Rattle.std.proofs.Common.{sym}
 use Rattle.text_view.proofs.Escapes.{escape_code, behind_code}
 use Rattle.text_view.proofs.json.escape_of.Goals as goal
 

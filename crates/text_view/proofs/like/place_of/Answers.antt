@@ -1,4 +1,3 @@
-use Rattle.std.proofs.Common.{arith}
 use Rattle.text_view.proofs.Runs.{byte_found, byte_nowhere, nothing_own}
 use Rattle.text_view.proofs.like.place_of.Goals as goal
 

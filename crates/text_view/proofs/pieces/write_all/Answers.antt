@@ -1,4 +1,4 @@
-use Rattle.std.proofs.Common.{◌≡◌, ◌≤◌, List, ℕ, [], length, refl, arith, ap}
+use Rattle.std.proofs.Common.{◌≡◌, ◌≤◌, [], length, refl, arith, ap}
 use Rattle.text_view.proofs.Runs.{over_full, fits_whole, written_whole, shown_empty, nil_from_test}
 use Rattle.text_view.proofs.pieces.write_all.Goals as goal
 

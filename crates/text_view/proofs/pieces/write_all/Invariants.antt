@@ -1,4 +1,4 @@
-use Rattle.std.proofs.Common.{◌≡◌, ◌≤◌, ◌++◌, length, take}
+use Rattle.std.proofs.Common.{length}
 use Rattle.std.specs.Str.{encode_utf8_all}
 use Rattle.text_view.specs.Spelled.{seen}
 use Rattle.text_view.specs.Writing.{WritesFront}

@@ -1,6 +1,5 @@
-use Rattle.std.proofs.Common.{◌≡◌, ◌∙◌}
+use Rattle.std.proofs.Common.{◌∙◌}
 use Rattle.std.specs.Str.{chars}
-use Rattle.text_view.specs.QuotedField.{unquoted}
 use Rattle.text_view.proofs.Grammars.{field_alone, field_stands}
 use Rattle.text_view.proofs.view.Text.quoted.Goals as goal
 
