@@ -1,0 +1,9 @@
+pub mod Finding
+pub mod Held
+pub mod JsonString
+pub mod LikePattern
+pub mod QuotedField
+pub mod Room
+pub mod Spelled
+pub mod Trimmed
+pub mod Writing

@@ -1,0 +1,46 @@
+-- A place in a lent text: which characters are still to come.
+use Rattle.std.specs.Prelude.{ℕ, ◌+◌, Bool, false, ◌==◌, ◌||◌, List, [], ◌∷◌, map, take, if◌then◌else◌}
+use Rattle.std.specs.Str.{chars}
+use Rattle.std.specs.Char.{to_ascii_uppercase, to_ascii_lowercase}
+use Rattle.text_view.specs.declared.cursor.Escape.{Escape}
+use Rattle.text_view.specs.declared.cursor.Escape.TheVariants.{Plain, Quoted, Json}
+use Rattle.text_view.specs.declared.cursor.Case.{Case}
+use Rattle.text_view.specs.declared.cursor.Case.TheVariants.{Kept, Upper, Lower}
+use Rattle.text_view.specs.declared.cursor.Cursor.{Cursor}
+use Rattle.text_view.specs.QuotedField.{unquoted}
+use Rattle.text_view.specs.Trimmed.{contains}
+use Rattle.text_view.specs.JsonString.{unescaped_text}
+
+-- what the characters stand for
+abbrev pub spelled : Escape → List ℕ → List ℕ
+spelled Plain cs = cs
+spelled (Quoted quote escape) cs = unquoted quote escape cs
+spelled Json cs = unescaped_text cs
+
+-- the characters in a letter case
+abbrev pub cased : Case → ℕ → ℕ
+cased Kept c = c
+cased Upper c = to_ascii_uppercase c
+cased Lower c = to_ascii_lowercase c
+
+-- at most `limit` of the characters, in that case
+unfoldable pub shown : Case → ℕ → List ℕ → List ℕ
+shown letters limit cs = map (cased letters) (take limit cs)
+
+-- the characters that are still to come
+abbrev pub seen : Cursor → List ℕ
+seen c = shown c.case c.limit (spelled c.escape (chars c.rest.now))
+
+-- The number of characters up to the last that isn't in the set, where `passed` characters were passed
+-- and `kept` of them are kept.
+abbrev pub kept_after : List ℕ → ℕ → ℕ → List ℕ → ℕ
+kept_after set kept passed [] = kept
+kept_after set kept passed (c ∷ cs) =
+    if contains set c then kept_after set kept (passed + 1) cs
+    else kept_after set (passed + 1) (passed + 1) cs
+
+-- the character may begin an escape or end the part that has escapes
+abbrev pub special : Escape → ℕ → Bool
+special Plain c = false
+special (Quoted quote escape) c = c == quote || c == escape
+special Json c = c == 92
