@@ -1,5 +1,7 @@
 pub mod CountsText
 pub mod Crc
 pub mod Event
+pub mod HeaderFront
 pub mod Message
+pub mod Reading
 pub mod Register

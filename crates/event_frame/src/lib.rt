@@ -3,6 +3,8 @@
 
 mod counts;
 mod crc;
+mod fault;
+mod headers;
 mod message;
 mod products;
 #[cfg(test)]
@@ -11,4 +13,5 @@ mod writer;
 
 pub use counts::Counts;
 pub use crc::crc32;
+pub use fault::{FrameFault, FrameFaultCode};
 pub use writer::FrameWriter;
