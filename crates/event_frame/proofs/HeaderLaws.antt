@@ -44,7 +44,7 @@ front bytes rest n h more is e =
 pub no_header-empty : (bytes : List ℕ) → length bytes ≡ 0 → HasNoHeader bytes
 no_header-empty bytes none h more is e =
     let size : length bytes ≡ length (length h.name ∷ (h.name ++ (7 ∷ length h.value / 256 % 256 ∷ length h.value % 256 ∷ (h.value ++ more)))) =
-        ap length (e ∙ flat h more) in
+    ap length (e ∙ flat h more) in
     omega arith
 
 pub no_header-unnamed : (bytes rest : List ℕ) (n : ℕ) → bytes ≡ n ∷ rest → n ≡ 0 → HasNoHeader bytes
@@ -56,14 +56,14 @@ pub no_header-short_name : (bytes rest : List ℕ) (n : ℕ) → bytes ≡ n ∷
 no_header-short_name bytes rest n is short h more h_is e =
     let f = front bytes rest n h more is e in
     let size : length rest ≡ length h.name + length (7 ∷ length h.value / 256 % 256 ∷ length h.value % 256 ∷ (h.value ++ more)) =
-        ap length f.behind ∙ length-append h.name (7 ∷ length h.value / 256 % 256 ∷ length h.value % 256 ∷ (h.value ++ more)) in
+    ap length f.behind ∙ length-append h.name (7 ∷ length h.value / 256 % 256 ∷ length h.value % 256 ∷ (h.value ++ more)) in
     omega (arith, f.size)
 
 pub no_header-short : (bytes rest tail : List ℕ) (n : ℕ) → bytes ≡ n ∷ rest → tail ≡ drop n rest → length tail < 3 → HasNoHeader bytes
 no_header-short bytes rest tail n is after short h more h_is e =
     let f = front bytes rest n h more is e in
     let size : length tail ≡ length (7 ∷ length h.value / 256 % 256 ∷ length h.value % 256 ∷ (h.value ++ more)) =
-        ap length (after ∙ f.tail) in
+    ap length (after ∙ f.tail) in
     omega arith
 
 pub no_header-kind : (bytes rest tail : List ℕ) (n : ℕ) → bytes ≡ n ∷ rest → tail ≡ drop n rest → get_or tail 0 0 ≢ 7 → HasNoHeader bytes
@@ -81,8 +81,8 @@ no_header-short_value bytes rest tail n v is after v_is short h more h_is e =
     let f = front bytes rest n h more is e in
     let tail_is : tail ≡ 7 ∷ length h.value / 256 % 256 ∷ length h.value % 256 ∷ (h.value ++ more) = after ∙ f.tail in
     let value_size : v ≡ length h.value =
-        v_is ∙ spelled_length (length h.value) (get_or tail 1 0) (get_or tail 2 0) h_is.value_fits
-            (ap (λ (l : List ℕ). get_or l 1 0) tail_is) (ap (λ (l : List ℕ). get_or l 2 0) tail_is) in
+    v_is ∙ spelled_length (length h.value) (get_or tail 1 0) (get_or tail 2 0) h_is.value_fits
+    (ap (λ (l : List ℕ). get_or l 1 0) tail_is) (ap (λ (l : List ℕ). get_or l 2 0) tail_is) in
     let size : length tail ≡ length (7 ∷ length h.value / 256 % 256 ∷ length h.value % 256 ∷ (h.value ++ more)) = ap length tail_is in
     omega (arith, length-append h.value more, length-take (length tail - 3) (drop 3 tail), length-drop 3 tail)
 
@@ -101,7 +101,7 @@ three_up (a ∷ b ∷ d ∷ tail) h = refl
 byte_behind : (bytes rest tail : List ℕ) (n k i : ℕ) → bytes ≡ n ∷ rest → tail ≡ drop k rest → AreBytes bytes → get_or tail i 0 < 256
 byte_behind bytes rest tail n k i is after fits =
     let same : get_or tail i 0 ≡ get_or bytes (suc (k + i)) 0 =
-        ap (λ (l : List ℕ). get_or l i 0) after ∙ get_or-drop k rest i 0 ∙ sym (ap (λ (l : List ℕ). get_or l (suc (k + i)) 0) is) in
+    ap (λ (l : List ℕ). get_or l i 0) after ∙ get_or-drop k rest i 0 ∙ sym (ap (λ (l : List ℕ). get_or l (suc (k + i)) 0) is) in
     omega (arith, fits (suc (k + i)))
 
 pub spells-header : (bytes rest name tail value more : List ℕ) (n k v : ℕ) → bytes ≡ n ∷ rest → (n ≡ 0 → ⊥) → AreBytes bytes → k ≡ n
@@ -117,24 +117,24 @@ spells-header bytes rest name tail value more n k v is some fits k_is named enou
     let low_fits : get_or tail 2 0 < 256 = byte_behind bytes rest tail n k 2 is named.2 fits in
     let whole : take (length tail - 3) (drop 3 tail) ≡ drop 3 tail = take_all (length tail - 3) (drop 3 tail) (omega (arith, length-drop 3 tail)) in
     let parts : value ++ more ≡ drop 3 tail =
-        ap (λ (l : List ℕ). l ++ more) value_is ∙ ap (λ (l : List ℕ). take v (take (length tail - 3) (drop 3 tail)) ++ l) more_is
-        ∙ take-append-drop v (take (length tail - 3) (drop 3 tail)) ∙ whole in
+    ap (λ (l : List ℕ). l ++ more) value_is ∙ ap (λ (l : List ℕ). take v (take (length tail - 3) (drop 3 tail)) ++ l) more_is
+    ∙ take-append-drop v (take (length tail - 3) (drop 3 tail)) ∙ whole in
     let name_size : length name ≡ n = named.3 ∙ k_is in
     let value_size : length value ≡ get_or tail 1 0 * 256 + get_or tail 2 0 = size ∙ v_is in
     let halves = bytes_of_length (length value) (get_or tail 1 0) (get_or tail 2 0) high_fits low_fits value_size in
     let joined : name ++ tail ≡ rest =
-        ap (λ (l : List ℕ). l ++ tail) named.1 ∙ ap (λ (l : List ℕ). take k rest ++ l) named.2 ∙ take-append-drop k rest in
+    ap (λ (l : List ℕ). l ++ tail) named.1 ∙ ap (λ (l : List ℕ). take k rest ++ l) named.2 ∙ take-append-drop k rest in
     record {
       is_header = record { named = omega arith; name_fits = omega arith; value_fits = omega arith };
       spelled =
-        is
-        ∙ ap (λ (l : List ℕ). n ∷ l) (sym joined ∙ ap (λ (l : List ℕ). name ++ l) (three_up tail enough))
-        ∙ ap (λ m. m ∷ (name ++ (get_or tail 0 0 ∷ get_or tail 1 0 ∷ get_or tail 2 0 ∷ drop 3 tail))) (sym name_size)
-        ∙ ap (λ m. length name ∷ (name ++ (m ∷ get_or tail 1 0 ∷ get_or tail 2 0 ∷ drop 3 tail))) kind
-        ∙ ap (λ m. length name ∷ (name ++ (7 ∷ m ∷ get_or tail 2 0 ∷ drop 3 tail))) (sym halves.0)
-        ∙ ap (λ m. length name ∷ (name ++ (7 ∷ length value / 256 % 256 ∷ m ∷ drop 3 tail))) (sym halves.1)
-        ∙ ap (λ (l : List ℕ). length name ∷ (name ++ (7 ∷ length value / 256 % 256 ∷ length value % 256 ∷ l))) (sym parts)
-        ∙ sym (flat (header name value) more);
+          is
+          ∙ ap (λ (l : List ℕ). n ∷ l) (sym joined ∙ ap (λ (l : List ℕ). name ++ l) (three_up tail enough))
+          ∙ ap (λ m. m ∷ (name ++ (get_or tail 0 0 ∷ get_or tail 1 0 ∷ get_or tail 2 0 ∷ drop 3 tail))) (sym name_size)
+          ∙ ap (λ m. length name ∷ (name ++ (m ∷ get_or tail 1 0 ∷ get_or tail 2 0 ∷ drop 3 tail))) kind
+          ∙ ap (λ m. length name ∷ (name ++ (7 ∷ m ∷ get_or tail 2 0 ∷ drop 3 tail))) (sym halves.0)
+          ∙ ap (λ m. length name ∷ (name ++ (7 ∷ length value / 256 % 256 ∷ m ∷ drop 3 tail))) (sym halves.1)
+          ∙ ap (λ (l : List ℕ). length name ∷ (name ++ (7 ∷ length value / 256 % 256 ∷ length value % 256 ∷ l))) (sym parts)
+          ∙ sym (flat (header name value) more);
     }
 
 -- two equal texts of two parts each, the first of one length
@@ -174,7 +174,7 @@ header-unique g h xs ys g_is h_is e =
 pub header-some : (h : Header) (more : List ℕ) → 0 < length (print_header h ++ more)
 header-some h more =
     let size : length (print_header h ++ more) ≡ suc (length (h.name ++ (7 ∷ length h.value / 256 % 256 ∷ length h.value % 256 ∷ (h.value ++ more)))) =
-        ap length (flat h more) in
+    ap length (flat h more) in
     omega arith
 
 -- the headers that are left to look through for a name
@@ -195,9 +195,9 @@ left-next : (name other value rest after : List ℕ) (good headers : List Header
     → value_of name headers ≡ value_of name good → SpellsHeader rest other value after → LeftNext name other value after good
 left-next name other value rest after good [] are spelled same found =
     absurd (let size : length rest ≡ 0 = ap length spelled in
-        let more : 0 < length (print_header (header other value) ++ after) = header-some (header other value) after in
-        let is : length rest ≡ length (print_header (header other value) ++ after) = ap length found.spelled in
-        omega arith)
+    let more : 0 < length (print_header (header other value) ++ after) = header-some (header other value) after in
+    let is : length rest ≡ length (print_header (header other value) ++ after) = ap length found.spelled in
+    omega arith)
 left-next name other value rest after good (h ∷ headers) are spelled same found =
     let u = header-unique h (header other value) (print_headers headers) after are.0 found.is_header (sym spelled ∙ found.spelled) in
     record {
@@ -205,9 +205,9 @@ left-next name other value rest after good (h ∷ headers) are spelled same foun
       are_headers = are.2;
       spelled = sym u.rest;
       same =
-        ap (λ (n : List ℕ). cond (bytes_eq n name) (Some value) (value_of name headers)) (sym u.name)
-        ∙ ap (λ (v : List ℕ). cond (bytes_eq h.name name) (Some v) (value_of name headers)) (sym u.value)
-        ∙ same;
+          ap (λ (n : List ℕ). cond (bytes_eq n name) (Some value) (value_of name headers)) (sym u.name)
+          ∙ ap (λ (v : List ℕ). cond (bytes_eq h.name name) (Some v) (value_of name headers)) (sym u.value)
+          ∙ same;
     }
 
 pub left-step : (name other value rest after : List ℕ) (good : List Header) → Left name good rest → SpellsHeader rest other value after
@@ -238,5 +238,5 @@ pub header-shorter : (rest name value after : List ℕ) → SpellsHeader rest na
 header-shorter rest name value after found =
     let h : Header = header name value in
     let size : length rest ≡ suc (length (h.name ++ (7 ∷ length h.value / 256 % 256 ∷ length h.value % 256 ∷ (h.value ++ after)))) =
-        ap length (found.spelled ∙ flat h after) in
+    ap length (found.spelled ∙ flat h after) in
     omega (arith, length-append h.name (7 ∷ length h.value / 256 % 256 ∷ length h.value % 256 ∷ (h.value ++ after)), length-append h.value after)

@@ -50,9 +50,11 @@ pub are_headers-more : (headers : List Header) (h : Header) → AreHeaders heade
     → AreHeaders (headers ++ h ∷ [])
 are_headers-more [] h are h_is new = (h_is, refl, tt)
 are_headers-more (g ∷ headers) h are h_is new =
-    let differs : bytes_eq g.name h.name ≡ false = first_differs (bytes_eq g.name h.name) g.value (value_of h.name headers) new in
-    (are.0, value_of-more g.name headers h are.1 (bytes_eq-false g.name h.name differs),
-        are_headers-more headers h are.2 h_is (others_lack (bytes_eq g.name h.name) g.value (value_of h.name headers) new))
+    let differs : bytes_eq g.name h.name ≡ false = first_differs (bytes_eq g.name h.name) g.value (value_of h.name headers) new in (
+      are.0,
+      value_of-more g.name headers h are.1 (bytes_eq-false g.name h.name differs),
+      are_headers-more headers h are.2 h_is (others_lack (bytes_eq g.name h.name) g.value (value_of h.name headers) new),
+    )
 
 -- the bytes are good headers up to this place
 pub record GoodUpTo (bytes : List ℕ) (at : ℕ) : Type 0 where
@@ -104,9 +106,9 @@ bad-again bytes front rest name value after at found good inside before behind s
     let known : option_copied found ≡ value_of name good.headers = looked_up good.headers good.are_headers (before ∙ good.front) in
     ends_badly bytes at good inside
     (λ h more h_is new e.
-        let u = header-unique h (header name value) more after h_is spelled.is_header (sym e ∙ sym behind ∙ spelled.spelled) in
-        let none : option_copied found ≡ None = known ∙ ap (λ (n : List ℕ). value_of n good.headers) (sym u.name) ∙ new in
-        both found some none)
+    let u = header-unique h (header name value) more after h_is spelled.is_header (sym e ∙ sym behind ∙ spelled.spelled) in
+    let none : option_copied found ≡ None = known ∙ ap (λ (n : List ℕ). value_of n good.headers) (sym u.name) ∙ new in
+    both found some none)
   where
     both : (o : Option (Bor (List ℕ))) → true ≡ is_some o → option_copied o ≡ None → ⊥
     both None h e = cc
@@ -122,12 +124,12 @@ good-more bytes front rest name value after at found good before behind spelled 
     let new : value_of name good.headers ≡ None = sym known ∙ absent found none in
     let all : List ℕ = print_headers (good.headers ++ h ∷ []) in
     let printed : all ≡ print_headers good.headers ++ print_header h =
-        flat_map-append print_header good.headers (h ∷ []) ∙ ap (λ (l : List ℕ). print_headers good.headers ++ l) (append-nil (print_header h)) in
+    flat_map-append print_header good.headers (h ∷ []) ∙ ap (λ (l : List ℕ). print_headers good.headers ++ l) (append-nil (print_header h)) in
     let whole : bytes ≡ all ++ after =
-        sym (take-append-drop at bytes) ∙ ap (λ (l : List ℕ). l ++ drop at bytes) good.front
-        ∙ ap (λ (l : List ℕ). print_headers good.headers ++ l) (sym behind ∙ spelled.spelled)
-        ∙ sym (append_assoc (print_headers good.headers) (print_header h) after)
-        ∙ ap (λ (l : List ℕ). l ++ after) (sym printed) in
+    sym (take-append-drop at bytes) ∙ ap (λ (l : List ℕ). l ++ drop at bytes) good.front
+    ∙ ap (λ (l : List ℕ). print_headers good.headers ++ l) (sym behind ∙ spelled.spelled)
+    ∙ sym (append_assoc (print_headers good.headers) (print_header h) after)
+    ∙ ap (λ (l : List ℕ). l ++ after) (sym printed) in
     let size : length bytes ≡ length all + length after = ap length whole ∙ length-append all after in
     let upto : length bytes - length after ≡ length all = omega arith in
     record {

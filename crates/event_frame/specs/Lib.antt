@@ -5,3 +5,4 @@ pub mod HeaderFront
 pub mod Message
 pub mod Reading
 pub mod Register
+pub mod Shown

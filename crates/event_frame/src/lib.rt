@@ -3,6 +3,7 @@
 
 mod counts;
 mod crc;
+mod event;
 mod fault;
 mod headers;
 mod message;
@@ -13,5 +14,6 @@ mod writer;
 
 pub use counts::Counts;
 pub use crc::crc32;
+pub use event::EventView;
 pub use fault::{FrameFault, FrameFaultCode};
 pub use writer::FrameWriter;

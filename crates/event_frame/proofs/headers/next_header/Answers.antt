@@ -31,8 +31,8 @@ pub returns-in_err-value : goal.returns-in_err-value
 returns-in_err-value c =
     left_early _ _ _ c.from_residual-in_err-value.ensures
     (no_header-short_value _ _ c.in_ok-name.rest.now c.from.result c.from-2.result
-        (c.in_ok-length.ensures.cases.0 ∙ ap (λ n. n ∷ c.in_ok-length.rest.now) (sym c.from.ensures))
-        c.in_ok-name.ensures.cases.2 (c.from-2.ensures ∙ c.from_be_bytes.ensures) c.in_err-value.ensures.cases)
+    (c.in_ok-length.ensures.cases.0 ∙ ap (λ n. n ∷ c.in_ok-length.rest.now) (sym c.from.ensures))
+    c.in_ok-name.ensures.cases.2 (c.from-2.ensures ∙ c.from_be_bytes.ensures) c.in_err-value.ensures.cases)
 
 pub returns : goal.returns
 returns c =
