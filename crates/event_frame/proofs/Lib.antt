@@ -2,6 +2,8 @@ pub mod Blocks
 pub mod CrcVectors
 pub mod Division
 pub mod Entries
+pub mod FrameLaws
 pub mod HeaderLaws
 pub mod HeaderList
+pub mod Readings
 pub mod RegisterLaws

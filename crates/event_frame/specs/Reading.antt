@@ -79,7 +79,7 @@ pub record IsFrame (bytes : List ℕ) (event : Event) : Type 0 where
   pub fits : length bytes ≤ longest_frame
 
 -- the number of four bytes that begin at a place
-abbrev pub number_at : List ℕ → ℕ → ℕ
+unfoldable pub number_at : List ℕ → ℕ → ℕ
 number_at bytes at = from_be_bytes w32 (drop at bytes)
 
 -- the fault that the twelve bytes of a prelude show, and its place in the frame: the first of a wrong
@@ -104,6 +104,13 @@ IsBegun bytes = (length bytes < 12) ⊎ (HasPrelude bytes × (length bytes < num
 pub record IsWhole (bytes : List ℕ) : Type 0 where
   pub prelude : HasPrelude bytes
   pub size : length bytes ≡ number_at bytes 0
+
+-- the header bytes and the payload of a whole message
+abbrev pub headers_part : List ℕ → List ℕ
+headers_part bytes = take (number_at bytes 4) (drop 12 bytes)
+
+abbrev pub payload_part : List ℕ → List ℕ
+payload_part bytes = take (length bytes - 4 - (12 + number_at bytes 4)) (drop (12 + number_at bytes 4) bytes)
 
 -- the CRC of a whole message is wrong
 abbrev pub HasBadCrc : List ℕ → Type 0

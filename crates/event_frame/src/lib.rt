@@ -5,6 +5,7 @@ mod counts;
 mod crc;
 mod event;
 mod fault;
+mod frame;
 mod headers;
 mod message;
 mod products;
