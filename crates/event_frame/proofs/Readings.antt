@@ -42,8 +42,8 @@ shows_no_event bytes headers payload found c is payload_is e meant none =
       payload = payload;
       are_headers = e.are_headers;
       spelled = message_spelled bytes c.whole c.are_bytes c.crc
-        ∙ ap (λ (l : List ℕ). message_of l (payload_part bytes)) (sym is ∙ e.spelled)
-        ∙ ap (message_of (print_headers e.headers)) (sym payload_is);
+          ∙ ap (λ (l : List ℕ). message_of l (payload_part bytes)) (sym is ∙ e.spelled)
+          ∙ ap (message_of (print_headers e.headers)) (sym payload_is);
       none = sym (meant e.headers e.are_headers e.spelled) ∙ absent found none;
     }
   where
@@ -54,15 +54,16 @@ shows_no_event bytes headers payload found c is payload_is e meant none =
 pub shows_event : (bytes headers payload : List ℕ) (found : Option EventView) → Checked bytes → headers ≡ headers_part bytes → payload ≡ payload_part bytes
     → EndsWell headers → Found headers payload found → is_some found ≡ true → (event : Event) × IsFrame bytes event
 shows_event bytes headers payload None c is payload_is e meant some = absurd (cc)
-shows_event bytes headers payload (Some view) c is payload_is e meant some =
-    (event_shown view,
-        record {
-          headers = e.headers;
-          payload = payload;
-          are_headers = e.are_headers;
-          spelled = message_spelled bytes c.whole c.are_bytes c.crc
-            ∙ ap (λ (l : List ℕ). message_of l (payload_part bytes)) (sym is ∙ e.spelled)
-            ∙ ap (message_of (print_headers e.headers)) (sym payload_is);
-          meant = sym (meant e.headers e.are_headers e.spelled);
-          fits = whole_small bytes c.whole;
-        })
+shows_event bytes headers payload (Some view) c is payload_is e meant some = (
+  event_shown view,
+  record {
+    headers = e.headers;
+    payload = payload;
+    are_headers = e.are_headers;
+    spelled = message_spelled bytes c.whole c.are_bytes c.crc
+        ∙ ap (λ (l : List ℕ). message_of l (payload_part bytes)) (sym is ∙ e.spelled)
+        ∙ ap (message_of (print_headers e.headers)) (sym payload_is);
+    meant = sym (meant e.headers e.are_headers e.spelled);
+    fits = whole_small bytes c.whole;
+  },
+)

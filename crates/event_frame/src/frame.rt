@@ -1,6 +1,6 @@
 // The checks of a frame that is read, in order, each with its place in the frame.
 
-ghost use Rattle.std.specs.Prelude.{◌≡◌, ℕ, ◌+◌, ◌-◌, ◌≤◌, length, take, drop, MatchOption};
+ghost use Rattle.std.specs.Prelude.{◌≡◌, ℕ, ◌+◌, ◌-◌, ◌≤◌, length, take, drop, IfSome, MatchOption};
 ghost use Rattle.event_frame.specs.Event.{Event};
 ghost use Rattle.event_frame.specs.Reading.{number_at, prelude_fault, headers_part, payload_part, IsWhole, IsFrame, IsFaulty};
 
@@ -28,7 +28,8 @@ pub(crate) fn number_at(bytes: &[u8], at: usize) -> u32
 #[tactic(auto, unfolding(crate::specs::Reading::prelude_fault))]
 pub(crate) fn check_prelude(prelude: &[u8]) -> Option<(FrameFaultCode, u64)>
     requires { 12 ≤ length prelude.now }
-    ensures { result ≡ prelude_fault prelude.now }
+    ensures fault { result ≡ prelude_fault prelude.now }
+    ensures place { IfSome result (λ f. f.1 ≤ 12) }
 {
     let total = number_at(prelude, 0);
     let headers = number_at(prelude, 4);
@@ -47,7 +48,8 @@ pub(crate) fn check_prelude(prelude: &[u8]) -> Option<(FrameFaultCode, u64)>
 // What is wrong with a message whose prelude is good.
 pub(crate) fn check_message(frame: &[u8]) -> Option<(FrameFaultCode, u64)>
     requires { IsWhole frame.now }
-    ensures { MatchOption result ((e : Event) × IsFrame frame.now e) (λ f. IsFaulty frame.now f.0 f.1) }
+    ensures fault { MatchOption result ((e : Event) × IsFrame frame.now e) (λ f. IsFaulty frame.now f.0 f.1) }
+    ensures place { IfSome result (λ f. f.1 ≤ length frame.now) }
 {
     let end = frame.len() - 4;
     if number_at(frame, end) != crc32(&frame[..end]) {

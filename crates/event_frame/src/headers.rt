@@ -1,6 +1,6 @@
 // The headers of a message, read where they stand.
 
-ghost use Rattle.std.specs.Prelude.{◌≡◌, List, MatchOption};
+ghost use Rattle.std.specs.Prelude.{◌≡◌, ◌<◌, List, length, IfSome, MatchOption};
 ghost use Rattle.std.specs.Option.{option_copied};
 ghost use Rattle.event_frame.specs.Message.{Header, print_headers};
 ghost use Rattle.event_frame.specs.Reading.{AreHeaders, value_of};
@@ -25,7 +25,8 @@ pub(crate) fn value<'h>(headers: &'h [u8], name: &[u8]) -> Option<&'h [u8]>
 
 // The place of the first header that is bad: one that can't be written, or whose name came before.
 pub(crate) fn first_bad(headers: &[u8]) -> Option<usize>
-    ensures { MatchOption result (EndsWell headers.now) (EndsBadly headers.now) }
+    ensures bad { MatchOption result (EndsWell headers.now) (EndsBadly headers.now) }
+    ensures place { IfSome result (λ at. at < length headers.now) }
 {
     let mut at = 0;
     while at < headers.len() {

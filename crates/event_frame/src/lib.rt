@@ -7,8 +7,10 @@ mod event;
 mod fault;
 mod frame;
 mod headers;
+mod intake;
 mod message;
 mod products;
+mod reader;
 #[cfg(test)]
 mod tests;
 mod writer;
@@ -17,4 +19,5 @@ pub use counts::Counts;
 pub use crc::crc32;
 pub use event::EventView;
 pub use fault::{FrameFault, FrameFaultCode};
+pub use reader::FrameReader;
 pub use writer::FrameWriter;

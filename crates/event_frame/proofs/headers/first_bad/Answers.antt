@@ -4,12 +4,12 @@ use Rattle.event_frame.proofs.headers.first_bad.Goals as goal
 pub loop-at-init : goal.loop-at-init
 loop-at-init c = good-start c.args.headers.now
 
-pub returns-in_default : goal.returns-in_default
-returns-in_default c =
+pub returns-in_default-clause-bad : goal.returns-in_default-clause-bad
+returns-in_default-clause-bad c =
     bad-header _ _ c.loop-at.at c.loop-at.invariant c.loop-at-test.true c.split_at.ensures.back c.in_default.ensures
 
-pub returns-then-is_some : goal.returns-then-is_some
-returns-then-is_some c =
+pub returns-then-is_some-clause-bad : goal.returns-then-is_some-clause-bad
+returns-then-is_some-clause-bad c =
     bad-again _ _ _ _ _ _ c.loop-at.at c.value.result c.loop-at.invariant c.loop-at-test.true c.split_at.ensures.front c.split_at.ensures.back
     c.in-Some.ensures c.value.ensures c.if-is_some.ensures
 
@@ -21,5 +21,5 @@ loop-at-preserved c =
     good-more _ _ _ _ _ _ c.loop-at.at c.value.result c.loop-at.invariant c.split_at.ensures.front c.split_at.ensures.back c.in-Some.ensures
     c.value.ensures c.if-is_some.ensures
 
-pub returns : goal.returns
-returns c = good-end _ c.loop-at.at c.loop-at.invariant c.loop-at-test.false
+pub returns-clause-bad : goal.returns-clause-bad
+returns-clause-bad c = good-end _ c.loop-at.at c.loop-at.invariant c.loop-at-test.false
