@@ -5,5 +5,7 @@ pub mod Entries
 pub mod FrameLaws
 pub mod HeaderLaws
 pub mod HeaderList
+pub mod IntakeLaws
+pub mod ReaderLaws
 pub mod Readings
 pub mod RegisterLaws

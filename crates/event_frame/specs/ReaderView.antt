@@ -25,8 +25,12 @@ fault_of Held = None
 fault_of Released = None
 fault_of (Faulty fault) = Some fault
 
+-- what a reader in this state shows of its buffer
+abbrev pub shown : State → List ℕ → ℕ → ReaderState
+shown state items taken = record { kept = kept_of state items; taken = taken; held = held_of state; fault = fault_of state }
+
 abbrev pub state_of : Inside → ReaderState
-state_of a = record { kept = kept_of a.state a.buffer.items; taken = a.taken; held = held_of a.state; fault = fault_of a.state }
+state_of a = shown a.state a.buffer.items a.taken
 
 pub record IsConsistent (a : Inside) : Type 0 where
   pub room : 16777216 ≤ vec_capacity a.buffer
