@@ -29,8 +29,12 @@ number_at-append bytes more at h =
 pub prelude_fault-append : (bytes more : List ℕ) → 12 ≤ length bytes → prelude_fault (bytes ++ more) ≡ prelude_fault bytes
 unfolding prelude_fault
 prelude_fault-append bytes more h =
-    rw (number_at-append bytes more 0 (omega arith), number_at-append bytes more 4 (omega arith),
-        number_at-append bytes more 8 (omega arith), take-append-le 8 bytes more (omega arith)) refl
+    rw (
+      number_at-append bytes more 0 (omega arith),
+      number_at-append bytes more 4 (omega arith),
+      number_at-append bytes more 8 (omega arith),
+      take-append-le 8 bytes more (omega arith),
+    ) refl
 
 has_prelude-append : (bytes more : List ℕ) → HasPrelude bytes → HasPrelude (bytes ++ more)
 has_prelude-append bytes more p =
@@ -56,16 +60,17 @@ grown old piece new total p total_is joined =
       prelude = rw joined (has_prelude-append old more p);
       total_is = total_is ∙ sym (number_at-append old more 0 (omega (arith, p.whole))) ∙ ap (λ (l : List ℕ). number_at l 0) (sym joined);
       size = ap length joined ∙ length-append old more
-        ∙ ap (λ n. length old + n) (length-take (min (total - length old) (length piece)) piece ∙ omega arith);
+          ∙ ap (λ n. length old + n) (length-take (min (total - length old) (length piece)) piece ∙ omega arith);
     }
 
 pub begun_more : (old piece new : List ℕ) (total : ℕ) → HasPrelude old → length old < number_at old 0 → total ≡ number_at old 0
     → new ≡ old ++ take (min (total - length old) (length piece)) piece → length new < total → (new ≡ old ++ piece) × IsBegun new
 begun_more old piece new total p begun total_is joined short =
     let g : Grown old piece new total = grown old piece new total p total_is joined in
-    let all : min (total - length old) (length piece) ≡ length piece = omega (arith, g.size) in
-    (joined ∙ ap (λ n. old ++ take n piece) all ∙ ap (λ (l : List ℕ). old ++ l) (take_all (length piece) piece (omega arith)),
-        inr (g.prelude, omega (arith, g.total_is)))
+    let all : min (total - length old) (length piece) ≡ length piece = omega (arith, g.size) in (
+      joined ∙ ap (λ n. old ++ take n piece) all ∙ ap (λ (l : List ℕ). old ++ l) (take_all (length piece) piece (omega arith)),
+      inr (g.prelude, omega (arith, g.total_is)),
+    )
 
 pub whole_now : (old piece new : List ℕ) (total : ℕ) → HasPrelude old → length old < number_at old 0 → total ≡ number_at old 0
     → new ≡ old ++ take (min (total - length old) (length piece)) piece → total ≤ length new → IsWhole new
@@ -114,18 +119,19 @@ adds_after old piece mid rest new n within first behind a =
       count = n + a.count;
       within = (let size : length rest ≡ length piece - n = ap length behind ∙ length-drop n piece in omega (arith, a.within));
       joined = a.joined ∙ ap (λ (l : List ℕ). l ++ take a.count rest) first
-        ∙ ap (λ (l : List ℕ). old ++ take n piece ++ take a.count l) behind
-        ∙ append_assoc old (take n piece) (take a.count (drop n piece))
-        ∙ ap (λ (l : List ℕ). old ++ l) (sym (take-add n a.count piece));
+          ∙ ap (λ (l : List ℕ). old ++ take n piece ++ take a.count l) behind
+          ∙ append_assoc old (take n piece) (take a.count (drop n piece))
+          ∙ ap (λ (l : List ℕ). old ++ l) (sym (take-add n a.count piece));
     }
 
 -- a step behind the first bytes of a piece is a step behind the piece
 pub steps_after : (old piece mid rest new : List ℕ) (n : ℕ) (step : Step) → n ≤ length piece → mid ≡ old ++ take n piece → rest ≡ drop n piece
     → Steps mid rest new step → Steps old piece new step
-steps_after old piece mid rest new n Begun within first behind s =
-    (s.0 ∙ ap (λ (l : List ℕ). l ++ rest) first ∙ ap (λ (l : List ℕ). old ++ take n piece ++ l) behind
-        ∙ append_assoc old (take n piece) (drop n piece) ∙ ap (λ (l : List ℕ). old ++ l) (take-append-drop n piece),
-        s.1)
+steps_after old piece mid rest new n Begun within first behind s = (
+  s.0 ∙ ap (λ (l : List ℕ). l ++ rest) first ∙ ap (λ (l : List ℕ). old ++ take n piece ++ l) behind
+      ∙ append_assoc old (take n piece) (drop n piece) ∙ ap (λ (l : List ℕ). old ++ l) (take-append-drop n piece),
+  s.1,
+)
 steps_after old piece mid rest new n Whole within first behind s = (adds_after old piece mid rest new n within first behind s.0, s.1)
 steps_after old piece mid rest new n (Faulty code place) within first behind s =
     (adds_after old piece mid rest new n within first behind s.0, s.1, s.2)

@@ -52,16 +52,16 @@ pub message-parts : (bytes headers payload : List ℕ) → bytes ≡ message_of 
 message-parts bytes headers payload is small =
     let size : length bytes ≡ 16 + length headers + length payload = ap length is ∙ message-size headers payload in
     let headers_size : number_at bytes 4 ≡ length headers =
-        ap (λ (l : List ℕ). number_at l 4) is ∙ message-headers_size headers payload (omega arith) in
+    ap (λ (l : List ℕ). number_at l 4) is ∙ message-headers_size headers payload (omega arith) in
     let total : number_at bytes 0 ≡ length headers + length payload + 16 =
-        ap (λ (l : List ℕ). number_at l 0) is ∙ message-total headers payload (omega arith) in
+    ap (λ (l : List ℕ). number_at l 0) is ∙ message-total headers payload (omega arith) in
     let t = message-tail headers payload in
     let crc : List ℕ = t.0 in
     let behind : drop 12 bytes ≡ headers ++ payload ++ crc = ap (drop 12) is ∙ t.2 in
     let apart : drop 12 bytes ≡ headers ++ (payload ++ crc) = behind ∙ append_assoc headers payload crc in
     let after : drop (12 + number_at bytes 4) bytes ≡ payload ++ crc =
-        sym (drop-drop (number_at bytes 4) 12 bytes) ∙ ap (drop (number_at bytes 4)) apart ∙ ap (λ n. drop n (headers ++ (payload ++ crc))) headers_size
-        ∙ drop-append_seam headers (payload ++ crc) in
+    sym (drop-drop (number_at bytes 4) 12 bytes) ∙ ap (drop (number_at bytes 4)) apart ∙ ap (λ n. drop n (headers ++ (payload ++ crc))) headers_size
+    ∙ drop-append_seam headers (payload ++ crc) in
     let rest : length bytes - 4 - (12 + number_at bytes 4) ≡ length payload = omega arith in
     record {
       size = size;
@@ -83,21 +83,22 @@ pub lends : (items headers payload : List ℕ) (taken : ℕ) (event : Event) (fo
 lends items headers payload taken event found f headers_is payload_is meant =
     let p = frame-parts items event f in
     let known : option_map event_shown found ≡ Some event =
-        meant f.headers f.are_headers (headers_is ∙ p.headers_is) ∙ ap (event_meant f.headers) (payload_is ∙ p.payload_is) ∙ f.meant in
+    meant f.headers f.are_headers (headers_is ∙ p.headers_is) ∙ ap (event_meant f.headers) (payload_is ∙ p.payload_is) ∙ f.meant in
     go found known
   where
     go : (o : Option EventView) → option_map event_shown o ≡ Some event → LendsEvent (shown Held items taken) o
     go None e = absurd (cc)
-    go (Some view) e =
-        (refl,
-            record {
-              headers = f.headers;
-              payload = f.payload;
-              are_headers = f.are_headers;
-              spelled = f.spelled;
-              meant = f.meant ∙ sym e;
-              fits = f.fits;
-            })
+    go (Some view) e = (
+      refl,
+      record {
+        headers = f.headers;
+        payload = f.payload;
+        are_headers = f.are_headers;
+        spelled = f.spelled;
+        meant = f.meant ∙ sym e;
+        fits = f.fits;
+      },
+    )
 
 -- a reader whose frame goes is sound
 pub released_sound : (items : List ℕ) (taken : ℕ) → IsSound (shown Released items taken)

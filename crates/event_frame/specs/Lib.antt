@@ -1,3 +1,4 @@
+pub mod CountsParts
 pub mod CountsText
 pub mod Crc
 pub mod Event

@@ -2,6 +2,7 @@
 #![tactic(auto)]
 
 mod counts;
+mod counts_text;
 mod crc;
 mod event;
 mod fault;

@@ -25,12 +25,13 @@ pub returns : goal.returns
 returns c =
     let f = frame_of_held c.self.inside.state c.self.inside.buffer.items c.in-Held.is c.self.invariant.sound.whole in
     let old : c.args.self.now ≡ shown Held c.self.inside.buffer.items c.self.inside.taken =
-        sym c.self.view_is ∙ ap (λ (s : State). shown s c.self.inside.buffer.items c.self.inside.taken) c.in-Held.is in
-    ((refl, (λ _. tt), (sym (ap released old), released_sound c.self.inside.buffer.items c.self.inside.taken)),
-        record {
-          after = tt;
-          event = subst (λ (s : ReaderState). LendsEvent s c.event.result) (sym old)
+    sym c.self.view_is ∙ ap (λ (s : State). shown s c.self.inside.buffer.items c.self.inside.taken) c.in-Held.is in (
+      (refl, (λ _. tt), (sym (ap released old), released_sound c.self.inside.buffer.items c.self.inside.taken)),
+      record {
+        after = tt;
+        event = subst (λ (s : ReaderState). LendsEvent s c.event.result) (sym old)
             (lends c.self.inside.buffer.items _ _ c.self.inside.taken f.0 c.event.result f.1
-                (c.parts.ensures.headers ∙ ap headers_part c.deref.ensures.value) (c.parts.ensures.payload ∙ ap payload_part c.deref.ensures.value)
-                c.event.ensures);
-        })
+            (c.parts.ensures.headers ∙ ap headers_part c.deref.ensures.value) (c.parts.ensures.payload ∙ ap payload_part c.deref.ensures.value)
+            c.event.ensures);
+      },
+    )
