@@ -138,7 +138,7 @@ spells-header bytes rest name tail value more n k v is some fits k_is named enou
     }
 
 -- two equal texts of two parts each, the first of one length
-same_front : (x y a b : List ℕ) → length x ≡ length y → x ++ a ≡ y ++ b → x ≡ y
+pub same_front : (x y a b : List ℕ) → length x ≡ length y → x ++ a ≡ y ++ b → x ≡ y
 same_front x y a b size e =
     sym (take-append_seam x a) ∙ ap (take (length x)) e ∙ ap (λ n. take n (y ++ b)) size ∙ take-append_seam y b
 

@@ -150,3 +150,9 @@ place-rises bytes rest name value after at inside behind spelled =
     let shorter : length after < length rest = header-shorter rest name value after spelled in
     let size : length rest ≡ length bytes - at = ap length behind ∙ length-drop at bytes in
     omega arith
+
+-- different texts are told
+pub bytes_eq-differs : (a b : List ℕ) → false ≡ bytes_eq a b → a ≢ b
+bytes_eq-differs a b e same =
+    let both : bytes_eq a b ≡ true = ap (λ (l : List ℕ). bytes_eq a l) (sym same) ∙ bytes_eq-same a in
+    cc

@@ -1,4 +1,6 @@
 pub mod Blocks
+pub mod CountsElement
+pub mod CountsLaws
 pub mod CrcVectors
 pub mod Division
 pub mod Entries

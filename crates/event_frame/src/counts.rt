@@ -3,7 +3,7 @@
 ghost use Rattle.std.specs.Prelude.{◌≡◌, ℕ, ◌+◌, ◌≤◌, ◌++◌, length, vec_capacity, decimal, MatchOption};
 ghost use Rattle.event_frame.specs.CountsText.{counts_text, HasNoCounts, ReadsCounts};
 
-use crate::counts_text::{after, read_element};
+use crate::counts_text::{read_declared, read_element};
 use crate::message::put;
 use itoa::Buffer;
 
@@ -22,16 +22,14 @@ impl Counts {
         ensures { MatchOption result (HasNoCounts name.now payload.now) (ReadsCounts name.now payload.now) }
     {
         let name = name.as_bytes();
-        if let Some(element) = after(payload, DECLARATION) {
-            if let Some(counts) = read_element(element, name) {
-                return Some(counts);
-            }
+        match read_declared(payload, name) {
+            Some(counts) => Some(counts),
+            None => read_element(payload, name),
         }
-        read_element(payload, name)
     }
 }
 
-const DECLARATION: &[u8] = b"<?xml version=\"1.0\" encoding=\"UTF-8\"?>";
+pub(crate) const DECLARATION: &[u8] = b"<?xml version=\"1.0\" encoding=\"UTF-8\"?>";
 
 // Makes `text` the payload of these counts, for the event of this name.
 pub(crate) fn print(text: &mut Vec<u8>, name: &[u8], counts: &Counts)

@@ -1,9 +1,18 @@
 // The counts that a payload of Progress or Stats spells.
 
-ghost use Rattle.std.specs.Prelude.{◌≡◌, List, [], ◌∷◌, ◌++◌, length, slice_index, MatchOption};
-ghost use Rattle.event_frame.specs.CountsParts.{LacksFront, HasNoNumber, SpellsNumber, HasNoOpening, SpellsOpening, HasNoField, SpellsField, HasNoElement, ReadsElement};
+ghost use Rattle.std.specs.Prelude.{◌≡◌, ◌++◌, false, slice_index, MatchOption};
+ghost use Rattle.std.specs.Char.{is_ascii_digit};
+ghost use Rattle.event_frame.specs.CountsParts.{IsDigitAt, LacksFront, HasNoNumber, SpellsNumber, HasNoOpening, SpellsOpening, HasNoField, SpellsField, HasNoElement, ReadsElement, HasNoDeclared, ReadsDeclared};
 
-use crate::counts::Counts;
+use crate::counts::{Counts, DECLARATION};
+
+// The counts of an element of this name behind a declaration.
+pub(crate) fn read_declared(payload: &[u8], name: &[u8]) -> Option<Counts>
+    ensures { MatchOption result (HasNoDeclared name.now payload.now) (ReadsDeclared name.now payload.now) }
+{
+    let element = after(payload, DECLARATION)?;
+    read_element(element, name)
+}
 
 // The counts of an element of this name.
 pub(crate) fn read_element(bytes: &[u8], name: &[u8]) -> Option<Counts>
@@ -14,14 +23,15 @@ pub(crate) fn read_element(bytes: &[u8], name: &[u8]) -> Option<Counts>
     let (processed, rest) = read_field(rest, b"</BytesProcessed><BytesReturned>")?;
     let (returned, rest) = read_field(rest, b"</BytesReturned></")?;
     let rest = after(rest, name)?;
-    if rest != CLOSING {
-        return None;
+    if rest == CLOSING {
+        Some(Counts {
+            scanned,
+            processed,
+            returned,
+        })
+    } else {
+        None
     }
-    Some(Counts {
-        scanned,
-        processed,
-        returned,
-    })
 }
 
 const CLOSING: &[u8] = b">";
@@ -53,9 +63,9 @@ fn read_number(bytes: &[u8]) -> Option<(u128, &[u8])>
 {
     let mut number: u128 = 0;
     let mut at = 0;
-    while at < bytes.len() && bytes[at].is_ascii_digit() {
+    while let Some(digit) = digit_at(bytes, at) {
         let tens = number.checked_mul(10)?;
-        number = tens.checked_add(u128::from(bytes[at] - b'0'))?;
+        number = tens.checked_add(u128::from(digit))?;
         at += 1;
     }
     if at == 0 {
@@ -64,8 +74,23 @@ fn read_number(bytes: &[u8]) -> Option<(u128, &[u8])>
     Some((number, &bytes[at..]))
 }
 
+// The value of the digit that stands at a place.
+fn digit_at(bytes: &[u8], at: usize) -> Option<u8>
+    ensures { MatchOption result (is_ascii_digit (slice_index bytes.now at) ≡ false) (IsDigitAt bytes.now at) }
+{
+    if at >= bytes.len() {
+        return None;
+    }
+    let byte = bytes[at];
+    if byte.is_ascii_digit() {
+        Some(byte - b'0')
+    } else {
+        None
+    }
+}
+
 // What comes after a front.
-pub(crate) fn after<'p>(bytes: &'p [u8], front: &[u8]) -> Option<&'p [u8]>
+fn after<'p>(bytes: &'p [u8], front: &[u8]) -> Option<&'p [u8]>
     ensures { MatchOption result (LacksFront bytes.now front.now) (λ rest. bytes.now ≡ front.now ++ rest.now) }
 {
     let (start, rest) = bytes.split_at_checked(front.len())?;
