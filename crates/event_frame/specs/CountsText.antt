@@ -4,7 +4,7 @@ use Rattle.std.specs.Prelude.{◌≡◌, ℕ, ◌^◌, ◌<◌, Bool, true, fals
 use Rattle.std.specs.Char.{is_ascii_digit}
 use Rattle.std.specs.Str.Parse.{digits_value}
 use Rattle.event_frame.specs.declared.counts.Counts.{Counts}
-use Rattle.event_frame.specs.Event.{Event, stats}
+use Rattle.event_frame.specs.Event.{Event, progress, stats}
 
 -- the declaration and the namespace, which may be left out, and the digits of each count
 pub record CountsText : Type 0 where
@@ -44,6 +44,10 @@ counts_text name c =
       processed = decimal c.processed;
       returned = decimal c.returned;
     })
+
+-- the Progress event of these counts
+abbrev pub progress_of : Counts → Event
+progress_of c = progress (counts_text (codes "Progress") c)
 
 -- the Stats event of these counts
 abbrev pub stats_of : Counts → Event
