@@ -1,13 +1,13 @@
 -- A message taken apart and put together.
-use Rattle.std.proofs.Common.{◌≡◌, ◌≢◌, ℕ, ◌+◌, ◌-◌, ◌*◌, ◌^◌, ◌<◌, ◌≤◌, zero, suc, List, [], ◌∷◌, ◌++◌, length, get_or, take, drop, Bool, true, false, not, ◌||◌, cond, eqb, ltb, Option, None, Some, refl, sym, ap, subst, ◌∙◌, arith, append_assoc, length-append, length-take, length-drop}
-use Rattle.std.proofs.Math.Seq.{take-add, take-append_seam, drop-append_seam}
-use Rattle.std.proofs.lemmas.List.{take-append-drop, drop-drop, take_all, get_or-drop}
+use Rattle.std.proofs.Common.{◌≡◌, ℕ, ◌+◌, ◌-◌, ◌<◌, ◌≤◌, zero, suc, List, [], ◌∷◌, ◌++◌, length, get_or, take, drop, Bool, true, false, not, ◌||◌, cond, eqb, ltb, Option, None, Some, refl, sym, ap, ◌∙◌, arith, length-take, length-drop}
+use Rattle.std.proofs.Math.Seq.{take-add}
+use Rattle.std.proofs.lemmas.List.{take-append-drop, take_all, get_or-drop}
 use Rattle.std.proofs.lemmas.Bool.{eqb-true, ltb-false, or_parts}
-use Rattle.std.proofs.lemmas.Nat.{be_bytes_4, from_be_bytes-to_be_bytes_4}
+use Rattle.std.proofs.lemmas.Nat.{be_bytes_4}
 use Rattle.std.specs.Int.{w32, to_be_bytes, from_be_bytes}
 use Rattle.event_frame.specs.Crc.{crc_of}
 use Rattle.event_frame.specs.Message.{sealed, prelude_of, message_of}
-use Rattle.event_frame.specs.Reading.{number_at, prelude_fault, longest_frame, HasPrelude, IsWhole, headers_part, payload_part}
+use Rattle.event_frame.specs.Reading.{number_at, prelude_fault, longest_frame, IsWhole, headers_part, payload_part}
 use Rattle.event_frame.specs.declared.fault.FrameFaultCode.{FrameFaultCode}
 use Rattle.event_frame.specs.declared.fault.FrameFaultCode.TheVariants.{BadPreludeCrc, BadLengths, TooLarge}
 use Rattle.event_frame.proofs.RegisterLaws.{AreBytes}

@@ -1,15 +1,14 @@
 -- A list of headers that grows at its end.
-use Rattle.std.proofs.Common.{◌≡◌, ◌≢◌, ℕ, ◌+◌, ◌-◌, ◌<◌, ◌≤◌, zero, suc, List, [], ◌∷◌, ◌++◌, length, take, drop, Bool, true, false, cond, Option, None, Some, refl, sym, ap, subst, ◌∙◌, arith, append_assoc, length-append, length-take, length-drop, Bor}
+use Rattle.std.proofs.Common.{◌≡◌, ◌≢◌, ℕ, ◌+◌, ◌-◌, ◌<◌, ◌≤◌, List, [], ◌∷◌, ◌++◌, length, take, drop, Bool, true, false, cond, Option, None, Some, refl, sym, ap, ◌∙◌, arith, append_assoc, length-append, length-take, length-drop, Bor}
 use Rattle.std.proofs.Math.Seq.{take-append_seam}
-use Rattle.std.proofs.lemmas.List.{take-append-drop, take_all, append-nil, append_cancel_right}
+use Rattle.std.proofs.lemmas.List.{take-append-drop, take_all, append-nil}
 use Rattle.std.proofs.lemmas.Grind.{flat_map-append}
 use Rattle.std.proofs.lemmas.Slice.Eq.{bytes_eq-Decides}
-use Rattle.std.specs.Bool.{Decides}
 use Rattle.std.specs.Option.{option_copied, is_some}
 use Rattle.std.specs.Str.{bytes_eq}
 use Rattle.event_frame.specs.Message.{Header, print_header, print_headers}
 use Rattle.event_frame.specs.Event.{header}
-use Rattle.event_frame.specs.Reading.{IsHeader, AreHeaders, StopsAt, value_of}
+use Rattle.event_frame.specs.Reading.{IsHeader, AreHeaders, value_of}
 use Rattle.event_frame.specs.HeaderFront.{HasNoHeader, SpellsHeader, EndsWell, EndsBadly}
 use Rattle.event_frame.proofs.HeaderLaws.{header-unique, header-shorter}
 

@@ -1,5 +1,5 @@
 -- A frame that grows keeps its prelude, and ends where its prelude says.
-use Rattle.std.proofs.Common.{◌≡◌, ℕ, ◌+◌, ◌-◌, ◌<◌, ◌≤◌, min, zero, suc, List, [], ◌∷◌, ◌++◌, length, take, drop, Bool, true, false, cond, Option, None, Some, ◌⊎◌, inl, inr, refl, sym, ap, ◌∙◌, arith, append_assoc, length-append, length-take}
+use Rattle.std.proofs.Common.{◌≡◌, ℕ, ◌+◌, ◌-◌, ◌<◌, ◌≤◌, min, List, [], ◌∷◌, ◌++◌, length, take, drop, Bool, true, false, cond, Option, None, Some, ◌⊎◌, inl, inr, refl, sym, ap, ◌∙◌, arith, append_assoc, length-append, length-take}
 use Rattle.std.proofs.Math.Seq.{take-add}
 use Rattle.std.proofs.lemmas.List.{take-append-drop, take_all, take-append-le, drop-append-le, length-drop}
 use Rattle.std.specs.Int.{w32, from_be_bytes}
@@ -9,7 +9,7 @@ use Rattle.event_frame.specs.declared.intake.Step.{Step}
 use Rattle.event_frame.specs.declared.intake.Step.TheVariants.{Begun, Whole, Faulty}
 use Rattle.event_frame.specs.declared.fault.FrameFaultCode.{FrameFaultCode}
 use Rattle.event_frame.specs.declared.fault.FrameFaultCode.TheVariants.{BadPreludeCrc, BadLengths, TooLarge, BadMessageCrc, BadHeader, UnknownEvent}
-use Rattle.event_frame.proofs.FrameLaws.{Sizes, sizes}
+use Rattle.event_frame.proofs.FrameLaws.{sizes}
 
 -- a number is read from its own four bytes
 four-append : (l more : List ℕ) → 4 ≤ length l → from_be_bytes w32 (l ++ more) ≡ from_be_bytes w32 l

@@ -1,5 +1,5 @@
 -- What a frame's parts are, and what a reader that holds one lends.
-use Rattle.std.proofs.Common.{◌≡◌, ℕ, ◌+◌, ◌-◌, ◌^◌, ◌<◌, ◌≤◌, suc, List, [], ◌∷◌, ◌++◌, length, take, drop, Bool, true, false, Option, None, Some, inl, refl, sym, ap, subst, ◌∙◌, arith, append_assoc, length-append}
+use Rattle.std.proofs.Common.{◌≡◌, ℕ, ◌+◌, ◌-◌, ◌^◌, ◌<◌, ◌≤◌, List, ◌++◌, length, take, drop, Option, None, Some, inl, refl, sym, ap, ◌∙◌, arith, append_assoc, length-append}
 use Rattle.std.proofs.Math.Seq.{take-append_seam, drop-append_seam}
 use Rattle.std.proofs.lemmas.List.{drop-drop}
 use Rattle.std.proofs.lemmas.Nat.{from_be_bytes-to_be_bytes_4}
@@ -10,7 +10,7 @@ use Rattle.event_frame.specs.Message.{sealed, prelude_of, message_of, print_head
 use Rattle.event_frame.specs.Event.{Event}
 use Rattle.event_frame.specs.Shown.{event_shown}
 use Rattle.event_frame.specs.Reading.{number_at, headers_part, payload_part, event_meant, IsFrame}
-use Rattle.event_frame.specs.Reader.{ReaderState, IsSound, LendsEvent, released}
+use Rattle.event_frame.specs.Reader.{IsSound, LendsEvent}
 use Rattle.event_frame.specs.ReaderView.{shown}
 use Rattle.event_frame.specs.declared.event.EventView.{EventView}
 use Rattle.event_frame.specs.declared.reader.State.TheVariants.{Held, Released}

@@ -1,11 +1,11 @@
 -- What the checks of a whole message show.
-use Rattle.std.proofs.Common.{◌≡◌, ℕ, ◌+◌, ◌-◌, ◌≤◌, List, ◌++◌, length, take, Bool, true, false, Option, None, Some, refl, sym, ap, ◌∙◌, arith}
+use Rattle.std.proofs.Common.{◌≡◌, ℕ, ◌+◌, ◌-◌, List, length, take, true, false, Option, None, Some, refl, sym, ap, ◌∙◌}
 use Rattle.std.specs.Option.{option_map, is_some}
 use Rattle.event_frame.specs.Crc.{crc_of}
 use Rattle.event_frame.specs.Message.{Header, print_headers, message_of}
 use Rattle.event_frame.specs.Event.{Event}
 use Rattle.event_frame.specs.Shown.{event_shown}
-use Rattle.event_frame.specs.Reading.{number_at, longest_frame, IsWhole, headers_part, payload_part, AreHeaders, event_meant, IsFrame, HasBadHeader, HasNoEvent}
+use Rattle.event_frame.specs.Reading.{number_at, IsWhole, headers_part, payload_part, AreHeaders, event_meant, IsFrame, HasBadHeader, HasNoEvent}
 use Rattle.event_frame.specs.HeaderFront.{EndsWell, EndsBadly}
 use Rattle.event_frame.specs.declared.event.EventView.{EventView}
 use Rattle.event_frame.proofs.RegisterLaws.{AreBytes}

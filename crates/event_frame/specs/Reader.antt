@@ -1,5 +1,5 @@
 -- A reader of frames, as its callers see it.
-use Rattle.std.specs.Prelude.{◌≡◌, ℕ, ◌+◌, ◌-◌, ◌≤◌, Bool, true, false, List, [], ◌++◌, length, take, Option, None, Some, Result, Ok, Err, MatchOption, if◌then◌else◌}
+use Rattle.std.specs.Prelude.{◌≡◌, ℕ, ◌+◌, ◌≤◌, Bool, true, false, List, [], ◌++◌, length, take, Option, None, Some, Result, Ok, Err, if◌then◌else◌}
 use Rattle.event_frame.specs.Event.{Event}
 use Rattle.event_frame.specs.Reading.{IsBegun, IsFrame, IsFaulty}
 use Rattle.event_frame.specs.Shown.{event_shown}

@@ -3,7 +3,7 @@
 use Rattle.std.specs.Prelude.{◌≡◌, ◌≢◌, ℕ, ◌+◌, ◌-◌, ◌<◌, ◌≤◌, ◌⊎◌, ◌||◌, not, ◌==◌, nat_lt, List, [], ◌∷◌, ◌++◌, length, take, drop, Option, None, Some, unwrap_or, option_and_then, if◌then◌else◌, codes, ⊤}
 use Rattle.std.specs.Option.{option_map}
 use Rattle.std.specs.Str.{bytes_eq}
-use Rattle.std.specs.Int.{w32, from_be_bytes, to_be_bytes}
+use Rattle.std.specs.Int.{w32, from_be_bytes}
 use Rattle.event_frame.specs.Crc.{crc_of}
 use Rattle.event_frame.specs.Message.{Header, print_header, print_headers, message_of}
 use Rattle.event_frame.specs.Event.{Event, records, cont, progress, stats, end, error}

@@ -1,4 +1,4 @@
-use Rattle.std.proofs.Common.{sym, ◌∙◌, ap}
+use Rattle.std.proofs.Common.{sym}
 use Rattle.event_frame.proofs.CountsLaws.{front-found, front-lacks}
 use Rattle.event_frame.proofs.HeaderList.{bytes_eq-true, bytes_eq-differs}
 use Rattle.event_frame.proofs.counts_text.after.Goals as goal

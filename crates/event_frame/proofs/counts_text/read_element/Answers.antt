@@ -1,7 +1,7 @@
 use Rattle.event_frame.proofs.CountsLaws.{left_early}
 use Rattle.event_frame.proofs.CountsElement.{no_element-opening, no_element-scanned, no_element-processed, no_element-returned, no_element-name, no_element-end, reads-element}
 use Rattle.event_frame.proofs.HeaderList.{bytes_eq-true, bytes_eq-differs}
-use Rattle.std.proofs.Common.{sym, ◌∙◌}
+use Rattle.std.proofs.Common.{sym}
 use Rattle.event_frame.proofs.counts_text.read_element.Goals as goal
 
 pub returns-in_err-rest : goal.returns-in_err-rest

@@ -1,4 +1,4 @@
-use Rattle.std.proofs.Common.{◌≡◌, ◌+◌, ◌*◌, ◌^◌, ◌<◌, ◌≤◌, refl, sym, ◌∙◌, ap, arith}
+use Rattle.std.proofs.Common.{◌≡◌, ◌+◌, ◌*◌, ◌^◌, ◌<◌, refl, arith}
 use Rattle.event_frame.proofs.CountsLaws.{left_early, read-start, read-more, no_number-large, spells-number}
 use Rattle.event_frame.proofs.counts_text.read_number.Goals as goal
 

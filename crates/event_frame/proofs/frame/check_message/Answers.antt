@@ -1,4 +1,4 @@
-use Rattle.std.proofs.Common.{◌≡◌, refl, sym, ◌∙◌}
+use Rattle.std.proofs.Common.{refl, sym, ◌∙◌}
 use Rattle.event_frame.proofs.FrameLaws.{whole_fits}
 use Rattle.event_frame.proofs.Readings.{shows_bad_header, shows_no_event, shows_event}
 use Rattle.event_frame.proofs.frame.check_message.Goals as goal

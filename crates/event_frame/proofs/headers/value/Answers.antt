@@ -1,6 +1,4 @@
-use Rattle.std.proofs.Common.{◌≡◌, ◌<◌, ◌++◌, ℕ, length, refl, sym, ap, arith, length-append}
-use Rattle.event_frame.specs.Message.{print_header}
-use Rattle.event_frame.specs.Event.{header}
+use Rattle.std.proofs.Common.{refl}
 use Rattle.event_frame.proofs.HeaderLaws.{left-step, left-found, left-none, header-shorter}
 use Rattle.event_frame.proofs.headers.value.Goals as goal
 

@@ -1,4 +1,4 @@
-use Rattle.std.proofs.Common.{◌≡◌, ◌+◌, ◌-◌, ◌<◌, ◌≤◌, ℕ, List, length, min, ap, sym, subst, ◌∙◌, arith}
+use Rattle.std.proofs.Common.{◌≡◌, ◌-◌, length, min, ap, sym, ◌∙◌, arith}
 use Rattle.event_frame.proofs.IntakeLaws.{prelude_faulty, short_of_total, steps_after}
 use Rattle.event_frame.specs.Reading.{prelude_fault}
 use Rattle.event_frame.proofs.intake.take_in.Goals as goal

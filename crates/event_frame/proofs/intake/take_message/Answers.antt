@@ -1,4 +1,4 @@
-use Rattle.std.proofs.Common.{◌≡◌, ◌+◌, ◌≤◌, ℕ, List, ap, sym, subst, ◌∙◌, arith}
+use Rattle.std.proofs.Common.{◌≡◌, ℕ, List, ap, sym, subst, ◌∙◌, arith}
 use Rattle.event_frame.specs.Reading.{number_at, IsWhole}
 use Rattle.event_frame.proofs.IntakeLaws.{total_fits, begun_more, whole_now}
 use Rattle.event_frame.proofs.intake.take_message.Goals as goal

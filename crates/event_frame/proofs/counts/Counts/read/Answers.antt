@@ -1,4 +1,4 @@
-use Rattle.std.proofs.Common.{◌≡◌, ℕ, List, Option, None, Some, MatchOption, subst}
+use Rattle.std.proofs.Common.{ℕ, List, Option, None, Some, MatchOption, subst}
 use Rattle.event_frame.specs.CountsText.{HasNoCounts, ReadsCounts}
 use Rattle.event_frame.specs.CountsParts.{HasNoElement, ReadsElement, HasNoDeclared}
 use Rattle.event_frame.specs.declared.counts.Counts.{Counts}

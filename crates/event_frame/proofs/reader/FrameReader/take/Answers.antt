@@ -1,9 +1,8 @@
-use Rattle.std.proofs.Common.{◌≡◌, ◌+◌, ◌≤◌, ℕ, List, length, Bool, true, Option, refl, ap, sym, subst, ◌∙◌}
+use Rattle.std.proofs.Common.{◌≡◌, ◌+◌, ◌≤◌, ℕ, List, length, true, refl, ap, sym, subst, ◌∙◌}
 use Rattle.event_frame.specs.Event.{Event}
 use Rattle.event_frame.specs.Reading.{number_at, headers_part, payload_part, IsFrame}
 use Rattle.event_frame.specs.Reader.{ReaderState, LendsEvent, released}
 use Rattle.event_frame.specs.ReaderView.{shown, kept_of, held_of}
-use Rattle.event_frame.specs.declared.event.EventView.{EventView}
 use Rattle.event_frame.specs.declared.reader.State.{State}
 use Rattle.event_frame.specs.declared.reader.State.TheVariants.{Held}
 use Rattle.event_frame.proofs.ReaderLaws.{frame-room, lends, released_sound}
