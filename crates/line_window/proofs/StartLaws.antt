@@ -1,9 +1,9 @@
 -- The laws of starts, for any delimiter: adjacent ranges append, and near bytes tell them.
-use Rattle.std.proofs.Common.{◌≡◌, ℕ, zero, suc, ◌+◌, ◌-◌, ◌<◌, ◌≤◌, min, Bool, true, false, ◌&&◌, ◌||◌, ◌==◌, List, [], ◌∷◌, ◌++◌, length, take, drop, get_or, refl, sym, ap, ◌∙◌, subst, arith, inl, inr, length-take, length-drop}
+use Rattle.std.proofs.Common.{◌≡◌, ℕ, zero, suc, ◌+◌, ◌-◌, ◌<◌, ◌≤◌, min, Bool, true, false, ◌&&◌, ◌||◌, ◌==◌, List, ◌∷◌, ◌++◌, length, take, drop, refl, sym, ap, ◌∙◌, subst, arith, inl, inr, length-take, length-drop}
 use Rattle.std.proofs.lemmas.List.{drop-take, drop-drop, take-take}
 use Rattle.std.proofs.lemmas.Bool.{cases_lt, lt-ltb, le-ltb, lt-leb, and_left}
 use Rattle.std.specs.Prelude.{bytes_eq, nat_lt, nat_le, if◌then◌else◌}
-use Rattle.line_window.specs.Starts.{ends_at, is_start, starts, starts_in, bytes_between, AdjacentRangesAppend, NearBytesTell}
+use Rattle.line_window.specs.Starts.{ends_at, is_start, starts, starts_in, AdjacentRangesAppend, NearBytesTell}
 
 -- a first element that is there or not goes before what is joined
 if_cons-append : (b : Bool) (a : ℕ) (xs ys zs : List ℕ) → xs ≡ ys ++ zs
@@ -54,8 +54,8 @@ goes_on-same : (one other : List ℕ) (k w q : ℕ) → take w (drop k one) ≡ 
     → nat_lt q (length one) ≡ nat_lt q (length other)
 goes_on-same one other k w q same low high =
     let lengths : min w (length one - k) ≡ min w (length other - k) =
-        ap (λ n. min w n) (sym (length-drop k one)) ∙ sym (length-take w (drop k one)) ∙ ap length same
-        ∙ length-take w (drop k other) ∙ ap (λ n. min w n) (length-drop k other) in
+    ap (λ n. min w n) (sym (length-drop k one)) ∙ sym (length-take w (drop k one)) ∙ ap length same
+    ∙ length-take w (drop k other) ∙ ap (λ n. min w n) (length-drop k other) in
     elim (cases_lt q (length one)) [
       | inl goes_on ↦ lt-ltb q (length one) goes_on ∙ sym (lt-ltb q (length other) (omega arith))
       | inr ends ↦ le-ltb q (length one) ends ∙ sym (le-ltb q (length other) (omega arith))
@@ -69,24 +69,24 @@ ends_at-same d one other first w q same low high =
     elim (cases_lt q (length d)) [
       | inl early ↦ and_left _ _ (lt-leb (length d) q early) ∙ sym (and_left _ _ (lt-leb (length d) q early))
       | inr late ↦
-        let k = first - length d in
-        let i = q - length d - k in
-        let at : k + i ≡ q - length d = omega arith in
-        let fits : i + length d ≤ w = omega arith in
-        let piece : take (length d) (drop (q - length d) one) ≡ take (length d) (drop (q - length d) other) =
-            ap (λ n. take (length d) (drop n one)) (sym at)
-            ∙ sym (take-drop-take-drop one k w i (length d) fits)
-            ∙ ap (λ l. take (length d) (drop i l)) same
-            ∙ take-drop-take-drop other k w i (length d) fits
-            ∙ ap (λ n. take (length d) (drop n other)) at in
-        ap (λ l. nat_le (length d) q && bytes_eq l d) piece
+          let k = first - length d in
+          let i = q - length d - k in
+          let at : k + i ≡ q - length d = omega arith in
+          let fits : i + length d ≤ w = omega arith in
+          let piece : take (length d) (drop (q - length d) one) ≡ take (length d) (drop (q - length d) other) =
+          ap (λ n. take (length d) (drop n one)) (sym at)
+          ∙ sym (take-drop-take-drop one k w i (length d) fits)
+          ∙ ap (λ l. take (length d) (drop i l)) same
+          ∙ take-drop-take-drop other k w i (length d) fits
+          ∙ ap (λ n. take (length d) (drop n other)) at in
+          ap (λ l. nat_le (length d) q && bytes_eq l d) piece
     ]
 
 pub near_bytes_tell : NearBytesTell
 near_bytes_tell d one other first last ordered same =
     let w = last + 1 - (first - length d) in
     starts-same d one other first (last + 1 - first) (λ q low high.
-      let goes : nat_lt q (length one) ≡ nat_lt q (length other) =
-          goes_on-same one other (first - length d) w q same (omega arith) (omega arith) in
-      let ends : ends_at d one q ≡ ends_at d other q = ends_at-same d one other first w q same low (omega arith) in
-      ap (λ b. b && (q == 0 || ends_at d one q)) goes ∙ ap (λ b. nat_lt q (length other) && (q == 0 || b)) ends)
+    let goes : nat_lt q (length one) ≡ nat_lt q (length other) =
+    goes_on-same one other (first - length d) w q same (omega arith) (omega arith) in
+    let ends : ends_at d one q ≡ ends_at d other q = ends_at-same d one other first w q same low (omega arith) in
+    ap (λ b. b && (q == 0 || ends_at d one q)) goes ∙ ap (λ b. nat_lt q (length other) && (q == 0 || b)) ends)

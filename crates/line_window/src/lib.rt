@@ -1,6 +1,15 @@
 //! Lends the lines of a stored object that start in a range, in order, each once.
 #![tactic(auto)]
 
+mod buffer;
 mod laws;
+mod line;
+#[cfg(test)]
+mod tests;
+mod window;
 
-pub use laws::{adjacent_ranges_append, near_bytes_tell};
+pub use laws::{
+    adjacent_ranges_append, near_bytes_tell, runs_answer_the_range, runs_take_few_bytes,
+};
+pub use line::Line;
+pub use window::Window;

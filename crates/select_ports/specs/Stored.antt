@@ -1,5 +1,5 @@
 -- What a store holds, which of its objects is open, and what its calls say of them.
-use Rattle.std.specs.Prelude.{◌≡◌, ℕ, ◌<◌, ◌≤◌, List, length, take, drop, Option, None, Some, IfSome, Result, Ok, Err, MatchResult}
+use Rattle.std.specs.Prelude.{◌≡◌, ℕ, ◌<◌, ◌≤◌, List, length, take, drop, Option, None, Some, IfSome, Result, Ok, Err}
 use Rattle.select_ports.specs.Causes.{RoseBy}
 use Rattle.select_ports.specs.declared.outcome.Failed.{Failed}
 use Rattle.select_ports.specs.declared.store.Found.{Found}

@@ -11,7 +11,8 @@ pub const LONGEST_BODY: usize = 2_097_152;
 
 const OPENING: &[u8] = b"<SelectObjectContentRequest><Expression>";
 
-const CLOSING: &[u8] = b"</Expression><ExpressionType>SQL</ExpressionType><InputSerialization><CSV/></InputSerialization><OutputSerialization><CSV/></OutputSerialization></SelectObjectContentRequest>";
+const CLOSING: &[u8] =
+    b"</Expression><ExpressionType>SQL</ExpressionType><InputSerialization><CSV/></InputSerialization><OutputSerialization><CSV/></OutputSerialization></SelectObjectContentRequest>";
 
 /// Reads a body of at most [`LONGEST_BODY`] bytes.
 ///

@@ -1,4 +1,4 @@
-use Rattle.std.proofs.Common.{rules, arith, ◌≡◌, ℕ, ◌-◌, ◌≤◌, length, take, drop, length-take, length-drop}
+use Rattle.std.proofs.Common.{arith, ◌-◌, ◌≤◌, length, length-take, length-drop}
 use Rattle.std.proofs.lemmas.Result.{err_from_is_err_and}
 use Rattle.select_ports.proofs.Told.{appends-piece, appends-front}
 use Rattle.select_ports.proofs.streams.write_all.Goals as goal

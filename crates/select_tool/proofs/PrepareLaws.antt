@@ -1,0 +1,42 @@
+-- What a body asks is told by its bytes up to the limit and one more.
+use Rattle.std.proofs.Common.{◌≡◌, ℕ, ◌<◌, ◌≤◌, ◌⊎◌, Bool, true, false, List, [], ◌++◌, length, Option, None, Some, IfSome, Ok, Err, refl, sym, ap, ◌∙◌, subst, arith, inl, inr, append-nil, length-append, leb}
+use Rattle.std.proofs.lemmas.Bool.Decides.{leb_tells}
+use Rattle.select_request.specs.Body.{Reads, Refuses, IsSized, longest_body}
+use Rattle.select_request.specs.declared.fault.RequestFaultCode.{RequestFaultCode}
+use Rattle.select_request.specs.declared.fault.RequestFaultCode.TheVariants.{MalformedXML, NotBuilt}
+use Rattle.select_tool.specs.declared.prepare.Asked.{Asked}
+use Rattle.select_tool.specs.declared.prepare.Asked.TheVariants.{Refused, Asks}
+use Rattle.select_tool.specs.Prepared.{Prepares, IsRefused, IsNotBuilt}
+use Rattle.select_tool.specs.Input.{IsReadOf, IsReadFrom}
+
+-- a body that is too long is refused whatever follows
+refuses_longer : (whole body : List ℕ) (code : RequestFaultCode) (at : ℕ) → longest_body < length body → length body ≤ length whole
+    → Refuses body code at → Refuses whole code at
+refuses_longer whole body MalformedXML at long within (inl empty) = absurd (omega (arith, empty.0))
+refuses_longer whole body MalformedXML at long within (inr over) = inr (omega (arith, over.0), over.1)
+refuses_longer whole body NotBuilt at long within unbuilt = absurd (omega (arith, unbuilt.1.limited))
+
+prepares_longer : (whole body : List ℕ) (asked : Asked) → longest_body < length body → length body ≤ length whole → Prepares body asked → Prepares whole asked
+prepares_longer whole body (Refused code at) long within (inl refused) = inl (record {
+  fault = refused.fault;
+  read = refuses_longer whole body refused.fault.code refused.fault.at long within refused.read;
+  named = refused.named;
+  placed = refused.placed;
+})
+prepares_longer whole body (Refused code at) long within (inr unbuilt) = absurd (omega (arith, unbuilt.read.0.limited))
+prepares_longer whole body (Asks request) long within asks = absurd (omega (arith, asks.0.0.limited))
+
+prepares_read : (whole body : List ℕ) (asked : Asked) → IsReadOf whole body → Prepares body asked → Prepares whole asked
+prepares_read whole body asked read prepares = by_length (leb_tells (length body) longest_body)
+  where
+    by_length : ((leb (length body) longest_body ≡ true) × (length body ≤ longest_body)) ⊎ ((leb (length body) longest_body ≡ false) × (longest_body < length body)) → Prepares whole asked
+    by_length (inl short) =
+        let same : body ≡ whole = sym (append-nil body) ∙ ap (λ l. body ++ l) (sym (read.ended short.1)) ∙ sym read.joined in
+        subst (λ (l : List ℕ). Prepares l asked) same prepares
+    by_length (inr long) = prepares_longer whole body asked long.1 (omega (arith, ap length read.joined, length-append body read.rest)) prepares
+
+-- what the whole input asks
+pub prepares_from : (left : Option (List ℕ)) (body : List ℕ) (asked : Asked) → IsReadFrom left body → Prepares body asked
+    → IfSome left (λ whole. Prepares whole asked)
+prepares_from None body asked read prepares = tt
+prepares_from (Some whole) body asked read prepares = prepares_read whole body asked read prepares

@@ -1,0 +1,13 @@
+-- What is read of an input.
+use Rattle.std.specs.Prelude.{◌≡◌, ℕ, ◌+◌, ◌<◌, ◌≤◌, List, [], ◌++◌, length, take, Option, None, Some, IfSome}
+use Rattle.select_request.specs.Body.{longest_body}
+
+-- all that an input holds, as far as a body may go and one byte further
+pub record IsReadOf (whole body : List ℕ) : Type 0 where
+  pub rest : List ℕ
+  pub joined : whole ≡ body ++ rest
+  pub ended : length body ≤ longest_body → rest ≡ []
+
+-- the told input
+abbrev pub IsReadFrom : Option (List ℕ) → List ℕ → Type 0
+IsReadFrom left body = IfSome left (λ whole. IsReadOf whole body)

@@ -1,0 +1,14 @@
+pub mod Codes
+pub mod Pieces
+pub mod Records
+pub mod Answer
+pub mod Prepared
+pub mod Words
+pub mod Statuses
+pub mod Input
+pub mod Begun
+pub mod Events
+pub mod LineAnswers
+pub mod Jobs
+pub mod Streaming
+pub mod Replies

@@ -1,0 +1,124 @@
+//! The command `select NAME`: the reply to the body on the input, about the object of that name.
+ghost use Rattle.std.specs.Prelude.{◌≡◌, ◌+◌, ◌-◌, ◌≤◌, ℕ, List, None, ⊤, [], ◌∷◌, Err, IfOk, IfErr, IfSome, MatchResult};
+ghost use Rattle.std.specs.Io.KnownBytes.{Appends, Keeps};
+ghost use Rattle.select_ports.specs.Causes.{Rose};
+ghost use Rattle.select_ports.specs.Streams.{AppendsFront};
+ghost use Rattle.select_ports.specs.Stored.{IsOpen, OpensName};
+ghost use Rattle.line_window.specs.Sliding.{Tells};
+ghost use Rattle.select_tool.specs.Prepared.{Prepares};
+ghost use Rattle.select_tool.specs.Records.{records};
+ghost use Rattle.select_tool.specs.Answer.{processed};
+ghost use Rattle.select_tool.specs.Jobs.{WroteEarly};
+ghost use Rattle.select_tool.specs.Events.{wrapped_frames, error_event};
+ghost use Rattle.select_tool.specs.Replies.{IfTold, Replied, IsCutShort, Misses, CauseOf, reply_frames, reply_outcome, longest_record};
+
+use crate::Code;
+use crate::input::read_body;
+use crate::job::run_job;
+use crate::outcome::{EngineError, Outcome};
+use crate::prepare::{Asked, prepare};
+use crate::reply::ReplyWriter;
+use crate::trouble::Trouble;
+use select_ports::{Failed, Found, FrameSink, Limits, Plain, Sink, Source, Store};
+use std::alloc::Global;
+
+/// The program's record limit.
+const LIMITS: Limits = Limits { longest: 1_048_576 };
+
+/// Opens the object, reads the body, and writes the reply.
+pub(crate) fn select<S: Store, I: Source, O: Sink>(
+    alloc: Global,
+    name: &str,
+    store: &mut S,
+    input: &mut I,
+    out: &mut O,
+) -> Result<Outcome, Trouble>
+    ensures reply { IfOk result (λ outcome. IfTold (S.held store.old) (I.left input.old) name.now (λ object body. Replied object body outcome (O.written out.old) (O.written out.new))) }
+    ensures front { IfErr result (λ trouble. IfTold (S.held store.old) (I.left input.old) name.now (λ object body. IsCutShort object body (O.written out.old) (O.written out.new))) }
+    ensures cause { IfErr result (λ trouble. CauseOf trouble (Misses (S.held store.old) name.now (S.current store.new) (S.absent store.old) (S.absent store.new)) (Rose (I.faults input.old) (I.faults input.new)) (Rose (O.faults out.old) (O.faults out.new)) (Rose (S.faults store.old) (S.faults store.new)) (Keeps (O.written out.old) (O.written out.new))) }
+    ensures early { result ≡ Err Trouble.StoreFault → IfTold (S.held store.old) (I.left input.old) name.now (λ object body. WroteEarly (λ frame. frame) longest_record (S.taken store.new - S.taken store.old) (processed (records longest_record object)) (O.written out.old) (O.written out.new)) }
+    ensures taken { IfSome (S.current store.new) (λ object. S.taken store.new ≤ S.taken store.old + object.0) }
+    ensures held { S.held store.new ≡ S.held store.old }
+{
+    let size = open(store, name)?;
+    let asked = read_asked(alloc, input)?;
+    write_reply(alloc, &asked, store, size, &mut Plain { sink: out })
+}
+
+// Opens the object of the name, and tells its size.
+fn open<S: Store>(store: &mut S, name: &str) -> Result<u64, Trouble>
+    ensures opened { IfOk result (λ size. OpensName (S.held store.old) name.now size (S.current store.new)) }
+    ensures cause { IfErr result (λ trouble. CauseOf trouble (Misses (S.held store.old) name.now (S.current store.new) (S.absent store.old) (S.absent store.new)) ⊥ ⊥ ((S.current store.new ≡ None) × Rose (S.faults store.old) (S.faults store.new)) ⊤) }
+    ensures memory { result ≡ Err Trouble.OutOfMemory → ⊥ }
+    ensures taken { S.taken store.new ≡ S.taken store.old }
+    ensures held { S.held store.new ≡ S.held store.old }
+    ensures faults { S.faults store.old ≤ S.faults store.new }
+{
+    match store.open(name) {
+        Ok(Found::Size(size)) => Ok(size),
+        Ok(Found::Missing) => Err(Trouble::NoSuchKey),
+        Err(Failed) => Err(Trouble::StoreFault),
+    }
+}
+
+// Reads the body and what it asks.
+fn read_asked<I: Source>(alloc: Global, input: &mut I) -> Result<Asked, Trouble>
+    ensures asked { IfOk result (λ asked. IfSome (I.left input.old) (λ body. Prepares body asked)) }
+    ensures cause { IfErr result (λ trouble. CauseOf trouble ⊥ (Rose (I.faults input.old) (I.faults input.new)) ⊥ ⊥ ⊤) }
+{
+    let body = read_body(alloc, input)?;
+    match prepare(alloc, &body) {
+        Ok(asked) => Ok(asked),
+        Err(_) => Err(Trouble::OutOfMemory),
+    }
+}
+
+// Writes the reply to what was asked of the open object, whose size is given.
+fn write_reply<S: Store, K: FrameSink>(
+    alloc: Global,
+    asked: &Asked,
+    store: &mut S,
+    size: u64,
+    out: &mut K,
+) -> Result<Outcome, Trouble>
+    requires { IsOpen (S.current store.old) size }
+    ensures reply { (object : List ℕ) → Tells (S.current store.old) object → MatchResult result (λ outcome. Appends (K.written out.old) (K.written out.new) (reply_frames K.wrap object asked.now) × (outcome ≡ reply_outcome object asked.now)) (λ _. AppendsFront (K.written out.old) (K.written out.new) (reply_frames K.wrap object asked.now)) }
+    ensures early { (object : List ℕ) → Tells (S.current store.old) object → result ≡ Err Trouble.StoreFault → WroteEarly K.wrap longest_record (S.taken store.new - S.taken store.old) (processed (records longest_record object)) (K.written out.old) (K.written out.new) }
+    ensures cause { IfErr result (λ trouble. CauseOf trouble ⊥ ⊥ (Rose (K.faults out.old) (K.faults out.new)) (Rose (S.faults store.old) (S.faults store.new)) (Keeps (K.written out.old) (K.written out.new))) }
+    ensures taken { S.taken store.new ≤ S.taken store.old + size }
+    ensures held { S.held store.new ≡ S.held store.old }
+    ensures current { S.current store.new ≡ S.current store.old }
+    ensures absent { S.absent store.new ≡ S.absent store.old }
+    ensures store_faults { S.faults store.old ≤ S.faults store.new }
+    ensures rest { K.rest out.new ≡ K.rest out.old }
+{
+    match asked {
+        Asked::Refused { code, at } => refuse(alloc, *code, *at, out),
+        Asked::Asks(_) => match run_job(alloc, LIMITS, store, size, out) {
+            Ok(outcome) => Ok(outcome),
+            Err(EngineError::StoreFault) => Err(Trouble::StoreFault),
+            Err(EngineError::WriteFault) => Err(Trouble::OutputFault),
+            Err(EngineError::OutOfMemory) => Err(Trouble::OutOfMemory),
+        },
+    }
+}
+
+// Writes the one Error event of a refusal.
+fn refuse<K: FrameSink>(
+    alloc: Global,
+    code: Code,
+    at: u64,
+    out: &mut K,
+) -> Result<Outcome, Trouble>
+    ensures reply { MatchResult result (λ outcome. Appends (K.written out.old) (K.written out.new) (wrapped_frames K.wrap (error_event code at ∷ [])) × (outcome ≡ Outcome.Faulted code at)) (λ _. AppendsFront (K.written out.old) (K.written out.new) (wrapped_frames K.wrap (error_event code at ∷ []))) }
+    ensures cause { IfErr result (λ trouble. CauseOf trouble ⊥ ⊥ (Rose (K.faults out.old) (K.faults out.new)) ⊥ (Keeps (K.written out.old) (K.written out.new))) }
+    ensures rest { K.rest out.new ≡ K.rest out.old }
+{
+    let Ok(mut reply) = ReplyWriter::make(alloc) else {
+        return Err(Trouble::OutOfMemory);
+    };
+    match reply.fault(out, code, at) {
+        Ok(_) => Ok(Outcome::Faulted { code, at }),
+        Err(Failed) => Err(Trouble::OutputFault),
+    }
+}
