@@ -1,9 +1,9 @@
 -- A block of 16 bytes is taken in at once.
-use Rattle.std.proofs.Common.{◌≡◌, ℕ, zero, suc, ◌+◌, ◌*◌, ◌/◌, ◌%◌, ◌^◌, ◌<◌, List, [], ◌∷◌, length, get_or, refl, sym, ap, subst, ◌∙◌, arith, bit_xor, slice_index_or}
+use Rattle.std.proofs.Common.{◌≡◌, ℕ, zero, suc, ◌/◌, ◌%◌, ◌^◌, ◌<◌, List, [], ◌∷◌, length, get_or, refl, sym, ap, subst, ◌∙◌, arith, bit_xor}
 use Rattle.std.proofs.lemmas.Nat.{xor_lt}
 use lib.Bits.{xor_assoc, xor_zero_r}
 use Rattle.event_frame.specs.Register.{times_bytes, absorbed}
-use Rattle.event_frame.proofs.RegisterLaws.{AreBytes, little, shares, absorbed-little, times_bytes-little, register-little}
+use Rattle.event_frame.proofs.RegisterLaws.{AreBytes, shares, absorbed-little, times_bytes-little, register-little}
 
 -- a byte met by a byte of the register
 met_byte : (n b : ℕ) → b < 256 → bit_xor (n % 256) b < 256

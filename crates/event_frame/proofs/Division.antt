@@ -1,7 +1,7 @@
 -- Long division over bits is what the register does.
-use Rattle.std.proofs.Common.{◌≡◌, ℕ, zero, suc, ◌+◌, ◌-◌, ◌*◌, ◌/◌, ◌%◌, ◌^◌, ◌<◌, ◌≤◌, List, [], ◌∷◌, ◌++◌, length, get_or, map, replicate, Bool, true, false, not, eqb, cond, refl, sym, ap, ◌∙◌, arith, bit_xor}
+use Rattle.std.proofs.Common.{◌≡◌, ℕ, zero, suc, ◌-◌, ◌*◌, ◌/◌, ◌%◌, ◌^◌, ◌<◌, List, [], ◌∷◌, ◌++◌, length, map, replicate, Bool, true, false, not, eqb, cond, refl, sym, ap, ◌∙◌, arith, bit_xor}
 use Rattle.std.proofs.lemmas.Nat.{xor_shr, xor_mod, div-add-mod', xor_lt}
-use Rattle.std.proofs.Math.Nat.{pow-suc, mul_comm}
+use Rattle.std.proofs.Math.Nat.{pow-suc}
 use Rattle.std.proofs.lemmas.Bool.{eqb-true}
 use lib.Bits.{xor_zero_r, xor_assoc, xor_comm, xor_shifted}
 use Rattle.event_frame.specs.Crc.{plus_coefficient, plus, remainder, low_bits, message_bits, number_of, dividend, generator, crc_of}

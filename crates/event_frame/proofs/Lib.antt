@@ -1,5 +1,13 @@
 pub mod Blocks
+pub mod CountsElement
+pub mod CountsLaws
 pub mod CrcVectors
 pub mod Division
 pub mod Entries
+pub mod FrameLaws
+pub mod HeaderLaws
+pub mod HeaderList
+pub mod IntakeLaws
+pub mod ReaderLaws
+pub mod Readings
 pub mod RegisterLaws

@@ -1,5 +1,12 @@
+pub mod CountsParts
 pub mod CountsText
 pub mod Crc
 pub mod Event
+pub mod HeaderFront
 pub mod Message
+pub mod Reader
+pub mod ReaderView
+pub mod Reading
 pub mod Register
+pub mod Shown
+pub mod Steps

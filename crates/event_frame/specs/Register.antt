@@ -1,6 +1,6 @@
 -- The register of a bitwise CRC-32: a polynomial of degree below 32 as a number whose least
 -- significant bit is the coefficient of x^31.
-use Rattle.std.specs.Prelude.{ℕ, zero, suc, ◌+◌, ◌*◌, ◌/◌, ◌%◌, List, [], ◌∷◌, bit_xor}
+use Rattle.std.specs.Prelude.{ℕ, zero, suc, ◌*◌, ◌/◌, ◌%◌, List, [], ◌∷◌, bit_xor}
 
 -- the register times x, less a multiple of the generator
 unfoldable pub times_x : ℕ → ℕ

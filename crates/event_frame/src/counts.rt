@@ -1,8 +1,9 @@
 // The counts of a reply, and their text.
 
-ghost use Rattle.std.specs.Prelude.{◌≡◌, ℕ, ◌+◌, ◌≤◌, ◌++◌, length, vec_capacity, decimal};
-ghost use Rattle.event_frame.specs.CountsText.{counts_text};
+ghost use Rattle.std.specs.Prelude.{◌≡◌, ℕ, ◌+◌, ◌≤◌, ◌++◌, length, vec_capacity, decimal, MatchOption};
+ghost use Rattle.event_frame.specs.CountsText.{counts_text, HasNoCounts, ReadsCounts};
 
+use crate::counts_text::{read_declared, read_element};
 use crate::message::put;
 use itoa::Buffer;
 
@@ -14,6 +15,22 @@ pub struct Counts {
     pub returned: u128,
 }
 
+impl Counts {
+    /// The counts that the payload of a Progress or Stats event spells; `name` is the event's. The
+    /// declaration may be left out, and the root may have ` xmlns=""`.
+    pub fn read(payload: &[u8], name: &str) -> Option<Counts>
+        ensures { MatchOption result (HasNoCounts name.now payload.now) (ReadsCounts name.now payload.now) }
+    {
+        let name = name.as_bytes();
+        match read_declared(payload, name) {
+            Some(counts) => Some(counts),
+            None => read_element(payload, name),
+        }
+    }
+}
+
+pub(crate) const DECLARATION: &[u8] = b"<?xml version=\"1.0\" encoding=\"UTF-8\"?>";
+
 // Makes `text` the payload of these counts, for the event of this name.
 pub(crate) fn print(text: &mut Vec<u8>, name: &[u8], counts: &Counts)
     requires name { length name.now ≤ 16 }
@@ -23,7 +40,7 @@ pub(crate) fn print(text: &mut Vec<u8>, name: &[u8], counts: &Counts)
     ensures room { vec_capacity text.old ≤ vec_capacity text.new }
 {
     text.clear();
-    put(text, b"<?xml version=\"1.0\" encoding=\"UTF-8\"?>");
+    put(text, DECLARATION);
     put(text, b"<");
     put(text, name);
     put(text, b"><BytesScanned>");

@@ -2,13 +2,23 @@
 #![tactic(auto)]
 
 mod counts;
+mod counts_text;
 mod crc;
+mod event;
+mod fault;
+mod frame;
+mod headers;
+mod intake;
 mod message;
 mod products;
+mod reader;
 #[cfg(test)]
 mod tests;
 mod writer;
 
 pub use counts::Counts;
 pub use crc::crc32;
+pub use event::EventView;
+pub use fault::{FrameFault, FrameFaultCode};
+pub use reader::FrameReader;
 pub use writer::FrameWriter;

@@ -4,6 +4,7 @@ ghost use Rattle.std.specs.Prelude.{◌≡◌, ℕ, ◌+◌, ◌^◌, ◌<◌, �
 ghost use Rattle.event_frame.specs.Message.{prelude_of, message_of, sealed, print_header};
 
 use crate::crc::crc32;
+use crate::headers::STRING_KIND;
 
 // Makes the buffer the message with these header bytes and this payload.
 #[tactic(auto, unfolding(crate::specs::Message::message_of))]
@@ -59,7 +60,7 @@ pub(crate) fn put_header(buffer: &mut Vec<u8>, name: &[u8], value: &[u8])
 {
     put(buffer, &[name.len() as u8]);
     put(buffer, name);
-    put(buffer, &[7]);
+    put(buffer, &[STRING_KIND]);
     put(buffer, &(value.len() as u16).to_be_bytes());
     put(buffer, value);
 }

@@ -2,9 +2,9 @@
 
 ghost use Rattle.std.specs.Prelude.{◌≡◌, Some};
 
-use crate::{Counts, FrameWriter, crc32};
+use crate::{Counts, EventView, FrameFault, FrameFaultCode, FrameReader, FrameWriter, crc32};
 use select_ports::{Failed, FrameSink};
-use std::alloc::Global;
+use std::alloc::{AllocError, Global};
 use std::test::Fail;
 
 // A sink that keeps what it is given.
@@ -59,15 +59,62 @@ fn the_frames_of_replies(rt: HostRuntime) -> Result<(), Fail> {
             returned: 7,
         },
     )?;
+    writer.progress(
+        &mut out,
+        &Counts {
+            scanned: 65536,
+            processed: 65537,
+            returned: 65538,
+        },
+    )?;
     writer.end(&mut out)?;
     writer.error(&mut out, "CastFailed", "CastFailed at byte 2")?;
     let (records, rest) = out.bytes.as_slice().split_at_checked(108).ok_or("records")?;
     let (stats, rest) = rest.split_at_checked(234).ok_or("stats")?;
+    let (progress, rest) = rest.split_at_checked(253).ok_or("progress")?;
     let (end, error) = rest.split_at_checked(56).ok_or("end")?;
     assert_eq!(rt; records, RECORDS);
     assert_eq!(rt; stats, STATS);
+    assert_eq!(rt; progress, PROGRESS);
     assert_eq!(rt; end, END);
     assert_eq!(rt; error, ERROR);
+    Ok(())
+}
+
+#[test]
+fn a_frame_read_back(rt: HostRuntime) -> Result<(), Fail> {
+    let mut reader = FrameReader::make(rt.alloc())?;
+    let count = reader.feed(STATS).ok().ok_or("a fault")?;
+    assert_eq!(rt; count, 234);
+    assert!(rt; reader.inside());
+    let text = match reader.take() {
+        Some(EventView::Stats(text)) => Some(text),
+        _ => None,
+    };
+    let counts = Counts::read(text.ok_or("another event")?, "Stats").ok_or("no counts")?;
+    assert_eq!(rt; counts.scanned, 11);
+    assert_eq!(rt; counts.returned, 7);
+    Ok(())
+}
+
+// The fault of the End frame with a bit flipped in one byte.
+fn fault_of_flip(alloc: Global, place: usize) -> Result<Option<FrameFault>, AllocError> {
+    let mut bytes = END.to_vec(alloc)?;
+    if place < bytes.len() {
+        bytes[place] ^= 1;
+    }
+    let mut reader = FrameReader::make(alloc)?;
+    Ok(reader.feed(&bytes).err())
+}
+
+#[test]
+fn the_places_of_faults(rt: HostRuntime) -> Result<(), Fail> {
+    let prelude = fault_of_flip(rt.alloc(), 3)?.ok_or("no fault")?;
+    assert!(rt; prelude.code == FrameFaultCode::BadPreludeCrc);
+    assert_eq!(rt; prelude.at, 8);
+    let message = fault_of_flip(rt.alloc(), 20)?.ok_or("no fault")?;
+    assert!(rt; message.code == FrameFaultCode::BadMessageCrc);
+    assert_eq!(rt; message.at, 52);
     Ok(())
 }
 
@@ -76,6 +123,9 @@ const RECORDS: &[u8] =
 
 const STATS: &[u8] =
     b"\x00\x00\x00\xea\x00\x00\x00C\xe8\x93\x10=\x0d:message-type\x07\x00\x05event\x0b:event-type\x07\x00\x05Stats\x0d:content-type\x07\x00\x08text/xml<?xml version=\"1.0\" encoding=\"UTF-8\"?><Stats><BytesScanned>11</BytesScanned><BytesProcessed>11</BytesProcessed><BytesReturned>7</BytesReturned></Stats>v#\x81]";
+
+const PROGRESS: &[u8] =
+    b"\x00\x00\x00\xfd\x00\x00\x00FJ9\xaf \x0d:message-type\x07\x00\x05event\x0b:event-type\x07\x00\x08Progress\x0d:content-type\x07\x00\x08text/xml<?xml version=\"1.0\" encoding=\"UTF-8\"?><Progress><BytesScanned>65536</BytesScanned><BytesProcessed>65537</BytesProcessed><BytesReturned>65538</BytesReturned></Progress>m\xbe\xc1\xfb";
 
 const END: &[u8] =
     b"\x00\x00\x008\x00\x00\x00(\xc1\xc6\x84\xd4\x0d:message-type\x07\x00\x05event\x0b:event-type\x07\x00\x03End\xcf\x97\xd3\x92";

@@ -4,7 +4,7 @@ ghost use Rattle.std.specs.Prelude.{◌≡◌, ℕ, ◌+◌, ◌≤◌, length, 
 ghost use Rattle.select_ports.specs.Causes.{HasCause};
 ghost use Rattle.select_ports.specs.Streams.{AddsAll};
 ghost use Rattle.event_frame.specs.Event.{records, end, error, headers_of, frame_of};
-ghost use Rattle.event_frame.specs.CountsText.{stats_of};
+ghost use Rattle.event_frame.specs.CountsText.{progress_of, stats_of};
 ghost use Rattle.event_frame.specs.Message.{print_headers};
 
 use crate::counts;
@@ -15,6 +15,9 @@ use std::alloc::{AllocError, Global};
 
 const RECORDS_HEADERS: &[u8] =
     b"\x0d:message-type\x07\x00\x05event\x0b:event-type\x07\x00\x07Records\x0d:content-type\x07\x00\x18application/octet-stream";
+
+const PROGRESS_HEADERS: &[u8] =
+    b"\x0d:message-type\x07\x00\x05event\x0b:event-type\x07\x00\x08Progress\x0d:content-type\x07\x00\x08text/xml";
 
 const STATS_HEADERS: &[u8] =
     b"\x0d:message-type\x07\x00\x05event\x0b:event-type\x07\x00\x05Stats\x0d:content-type\x07\x00\x08text/xml";
@@ -52,6 +55,17 @@ impl FrameWriter {
         ensures rest { K.rest out.new ≡ K.rest out.old }
     {
         fill(&mut self.frame, RECORDS_HEADERS, payload);
+        out.frame(&self.frame)
+    }
+
+    /// Writes a Progress event: the counts so far.
+    pub fn progress<K: FrameSink>(&mut self, out: &mut K, counts: &Counts) -> Result<(), Failed>
+        ensures bytes { AddsAll (K.written out.old) (K.written out.new) result (K.wrap (frame_of (progress_of counts.now))) }
+        ensures faults { HasCause (K.faults out.old) (K.faults out.new) result }
+        ensures rest { K.rest out.new ≡ K.rest out.old }
+    {
+        counts::print(&mut self.part, b"Progress", counts);
+        fill(&mut self.frame, PROGRESS_HEADERS, &self.part);
         out.frame(&self.frame)
     }
 

@@ -1,6 +1,6 @@
 use Rattle.std.proofs.Common.{◌≡◌, ℕ, List, [], ◌++◌, sym, ap, ◌∙◌}
 use Rattle.std.proofs.lemmas.List.{append-nil}
-use Rattle.event_frame.specs.CountsText.{print_counts}
+use Rattle.event_frame.specs.CountsText.{opening, print_element, print_counts}
 use Rattle.event_frame.proofs.counts.print.Goals as goal
 
 -- a part added at the end
@@ -12,7 +12,7 @@ none : {text front : List ℕ} → text ≡ front → text ≡ front ++ []
 none {text} {front} e = e ∙ sym (append-nil front)
 
 pub returns-clause-bytes : goal.returns-clause-bytes
-unfolding print_counts
+unfolding opening print_element print_counts
 returns-clause-bytes c =
     let opened = none (more _ (more _ (more _ c.clear.ensures.items c.put.ensures.bytes) c.put-2.ensures.bytes) c.put-3.ensures.bytes) in
     let scanned = more _ (more _ opened c.put-4.ensures.bytes) c.put_decimal.ensures.bytes in

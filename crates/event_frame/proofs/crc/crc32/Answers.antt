@@ -1,4 +1,4 @@
-use Rattle.std.proofs.Common.{◌≡◌, ◌-◌, ◌<◌, ◌^◌, ◌/◌, ℕ, List, length, ap, sym, ◌∙◌, subst}
+use Rattle.std.proofs.Common.{◌≡◌, ◌-◌, ◌<◌, ◌^◌, ◌/◌, ℕ, List, length, ap, ◌∙◌, subst}
 use Rattle.event_frame.specs.Register.{absorbed, absorbed_blocks}
 use Rattle.event_frame.proofs.RegisterLaws.{absorbed-chunks}
 use Rattle.event_frame.proofs.Division.{crc_of-absorbed}
