@@ -1,21 +1,19 @@
 -- Records one after the other: their outputs, their lengths, their first fault, and which of them are processed.
-use Rattle.std.proofs.Common.{◌≡◌, ℕ, ◌+◌, ◌*◌, ◌^◌, ◌-◌, ◌<◌, ◌≤◌, min, List, [], ◌∷◌, ◌++◌, length, map, Option, None, Some, Result, Ok, Err, refl, sym, ap, ◌∙◌, subst, arith, append_assoc, append-nil, length-append}
-use Rattle.std.specs.Prelude.{sum_by, filter}
+use Rattle.std.proofs.Common.{◌≡◌, ℕ, ◌+◌, ◌^◌, ◌-◌, ◌<◌, min, List, [], ◌∷◌, ◌++◌, length, map, Option, None, Some, Result, Ok, Err, refl, sym, ap, ◌∙◌, arith, append_assoc, append-nil, length-append}
+use Rattle.std.specs.Prelude.{filter}
 use Rattle.std.proofs.lemmas.List.{map-append}
-use Rattle.std.proofs.lemmas.List.Sums.{sum_by-append, sum_by-cons}
+use Rattle.std.proofs.lemmas.List.Sums.{sum_by-append}
 use Rattle.std.proofs.lemmas.List.Elements.{filter-append}
-use Rattle.event_frame.specs.declared.counts.Counts.{Counts}
 use Rattle.event_frame.specs.Event.{Event, records as records_event, end}
 use Rattle.event_frame.specs.CountsText.{stats_of}
-use Rattle.select_tool.specs.declared.outcome.Outcome.{Outcome}
 use Rattle.select_tool.specs.declared.outcome.Outcome.TheVariants.{Done, Faulted}
 use Rattle.select_tool.specs.declared.code.Code.{Code}
-use Rattle.select_tool.specs.Pieces.{whole_pieces, remainder, pieces, unless_empty}
+use Rattle.select_tool.specs.Pieces.{whole_pieces, remainder, unless_empty}
 use Rattle.select_tool.specs.Records.{Record, record_at, is_record_at, records_at}
 use Rattle.select_tool.specs.Answer.{yielded, bytes_of, processed, processed_on, output, fault, fault_on, total_len}
 use Rattle.select_tool.specs.Events.{answer_events, closing_events, counts_of}
 use Rattle.select_tool.specs.Jobs.{outcome_of, ending_of}
-use Rattle.select_tool.specs.Begun.{Begun, counted}
+use Rattle.select_tool.specs.Begun.{counted}
 use Rattle.select_tool.specs.LineAnswers.{goes_on, fault_events, end_events, begun_counts}
 use Rattle.select_tool.specs.Streaming.{begun_after}
 use Rattle.select_tool.proofs.Cutting.{remainder-append, whole_pieces-append}

@@ -1,21 +1,20 @@
 -- How many records an object has at most, how long they and their outputs are, and where they start.
-use Rattle.std.proofs.Common.{◌≡◌, ℕ, zero, suc, ◌+◌, ◌*◌, ◌^◌, ◌-◌, ◌<◌, ◌≤◌, min, Bool, true, false, List, [], ◌∷◌, ◌++◌, length, map, take, drop, Option, None, Some, Result, Ok, Err, refl, sym, ap, ◌∙◌, subst, arith, append_assoc, append-nil, length-append, length-drop, if◌then◌else◌, ◌==◌, cond}
-use Rattle.std.specs.Prelude.{sum_by, filter, bytes_eq, nat_le, take_while}
+use Rattle.std.proofs.Common.{◌≡◌, ℕ, zero, suc, ◌+◌, ◌*◌, ◌^◌, ◌-◌, ◌<◌, ◌≤◌, Bool, true, false, List, [], ◌∷◌, ◌++◌, length, map, take, drop, Option, None, Some, Result, Ok, Err, refl, sym, ap, ◌∙◌, subst, arith, append-nil, length-append, length-drop, if◌then◌else◌, ◌==◌, cond}
+use Rattle.std.specs.Prelude.{filter, bytes_eq, nat_le, take_while}
 use Rattle.std.proofs.lemmas.List.Sums.{sum_by-append, take_while-cons}
-use Rattle.std.proofs.lemmas.Bool.{lt-leb, leb-true}
-use Rattle.std.specs.Io.KnownBytes.{Appends, Keeps}
+use Rattle.std.proofs.lemmas.Bool.{lt-leb}
+use Rattle.std.specs.Io.KnownBytes.{Keeps}
 use Rattle.std.proofs.KnownBytes.{Appends-nil}
 use Rattle.select_ports.proofs.Told.{appends-kept}
-use Rattle.select_ports.specs.Streams.{IsFront}
-use Rattle.event_frame.specs.Event.{Event, records as records_event}
-use Rattle.line_window.specs.Starts.{starts, is_start, before_delimiter, body, content, whole_len, without_mark}
-use Rattle.line_window.specs.Sliding.{View, left, Holds, place, kept_from, IsSound}
+use Rattle.event_frame.specs.Event.{records as records_event}
+use Rattle.line_window.specs.Starts.{starts, is_start, before_delimiter, body, content, without_mark}
+use Rattle.line_window.specs.Sliding.{View, left, place}
 use Rattle.std.proofs.Math.Nat.{suc-mul, mul-le-mul_right}
 use Rattle.select_tool.specs.declared.code.Code.{Code}
 use Rattle.select_tool.specs.declared.code.Code.TheVariants.{OverMaxRecordSize}
 use Rattle.select_tool.specs.Pieces.{whole_pieces, remainder}
 use Rattle.select_tool.specs.Records.{Record, record_at, is_record_at, records_at, is_too_long, content_fault, unless_faulty, delimiter}
-use Rattle.select_tool.specs.Answer.{yielded, bytes_of, processed, processed_on, output, fault, total_len}
+use Rattle.select_tool.specs.Answer.{yielded, bytes_of, processed, processed_on, output, total_len}
 use Rattle.select_tool.specs.Events.{wrapped_frames}
 use Rattle.select_tool.specs.Begun.{Begun}
 use Rattle.select_tool.specs.Jobs.{whole_frames, early, WroteEarly}

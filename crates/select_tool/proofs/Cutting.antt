@@ -1,9 +1,8 @@
 -- Pieces of an output that grows: the pieces that were whole stay, and the rest goes on from what they leave.
-use Rattle.std.proofs.Common.{◌≡◌, ℕ, zero, suc, ◌+◌, ◌*◌, ◌/◌, ◌%◌, ◌-◌, ◌<◌, ◌≤◌, List, [], ◌∷◌, ◌++◌, length, take, drop, refl, sym, ap, ◌∙◌, subst, arith, length-append, length-drop, append_assoc, add_assoc, zero-add, lit<, append-nil, length-take, take-append-drop}
+use Rattle.std.proofs.Common.{◌≡◌, ℕ, zero, suc, ◌+◌, ◌*◌, ◌/◌, ◌%◌, ◌<◌, ◌≤◌, List, [], ◌∷◌, ◌++◌, length, take, drop, refl, sym, ap, ◌∙◌, arith, length-append, length-drop, append_assoc, add_assoc, zero-add, lit<, append-nil, length-take, take-append-drop}
 use Rattle.std.proofs.lemmas.List.{take-append-le, drop-append-le, drop-drop, take_all, drop_all}
 use Rattle.std.proofs.Math.Seq.{take-add}
 use Rattle.std.proofs.Math.Nat.{div-eq_of_lt, mul-add-div_right, div-add-mod', zero-mul, suc-add}
-use Rattle.std.proofs.lemmas.Grind.{common_steps}
 use Rattle.select_tool.specs.Pieces.{piece, cut, whole_pieces, remainder}
 
 -- the pieces of a front that holds them all are those of the whole

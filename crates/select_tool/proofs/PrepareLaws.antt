@@ -1,12 +1,12 @@
 -- What a body asks is told by its bytes up to the limit and one more.
-use Rattle.std.proofs.Common.{◌≡◌, ℕ, ◌<◌, ◌≤◌, ◌⊎◌, Bool, true, false, List, [], ◌++◌, length, Option, None, Some, IfSome, Ok, Err, refl, sym, ap, ◌∙◌, subst, arith, inl, inr, append-nil, length-append, leb}
+use Rattle.std.proofs.Common.{◌≡◌, ℕ, ◌<◌, ◌≤◌, ◌⊎◌, true, false, List, ◌++◌, length, Option, None, Some, IfSome, sym, ap, ◌∙◌, subst, arith, inl, inr, append-nil, length-append, leb}
 use Rattle.std.proofs.lemmas.Bool.Decides.{leb_tells}
-use Rattle.select_request.specs.Body.{Reads, Refuses, IsSized, longest_body}
+use Rattle.select_request.specs.Body.{Refuses, longest_body}
 use Rattle.select_request.specs.declared.fault.RequestFaultCode.{RequestFaultCode}
 use Rattle.select_request.specs.declared.fault.RequestFaultCode.TheVariants.{MalformedXML, NotBuilt}
 use Rattle.select_tool.specs.declared.prepare.Asked.{Asked}
 use Rattle.select_tool.specs.declared.prepare.Asked.TheVariants.{Refused, Asks}
-use Rattle.select_tool.specs.Prepared.{Prepares, IsRefused, IsNotBuilt}
+use Rattle.select_tool.specs.Prepared.{Prepares}
 use Rattle.select_tool.specs.Input.{IsReadOf, IsReadFrom}
 
 -- a body that is too long is refused whatever follows

@@ -1,5 +1,5 @@
 -- Facts of the told object and body.
-use Rattle.std.proofs.Common.{◌≡◌, ◌⊎◌, ℕ, ◌<◌, List, Option, None, Some, IfSome, Result, Ok, Err, sym, subst, inr}
+use Rattle.std.proofs.Common.{◌≡◌, ◌⊎◌, ℕ, ◌<◌, List, Option, None, Some, IfSome, Result, Err, sym, subst, inr}
 use Rattle.std.specs.Prelude.{IsSome, IfErr}
 use Rattle.std.proofs.lemmas.Result.{IfErr-at_err}
 use Rattle.select_ports.specs.Stored.{Objects, Opened, LacksName}

@@ -1,12 +1,12 @@
 -- The reply while the lines of a window are answered.
-use Rattle.std.proofs.Common.{◌≡◌, ℕ, ◌+◌, ◌*◌, ◌^◌, ◌-◌, ◌<◌, ◌≤◌, Bool, true, false, List, [], ◌∷◌, ◌++◌, length, map, Option, None, Some, Result, Ok, Err, refl, sym, ap, ◌∙◌, subst, arith, append_assoc, append-nil, length-append, lit<, if◌then◌else◌, not, nat_lt, ◌||◌}
+use Rattle.std.proofs.Common.{◌≡◌, ℕ, ◌^◌, ◌<◌, Bool, true, false, List, [], ◌∷◌, ◌++◌, length, map, Option, None, Some, Ok, Err, refl, sym, ap, ◌∙◌, subst, append_assoc, append-nil, if◌then◌else◌, not, ◌||◌}
 use Rattle.std.proofs.lemmas.Bool.{le-ltb, lt-ltb}
-use Rattle.std.specs.Io.KnownBytes.{Appends, Keeps}
+use Rattle.std.specs.Io.KnownBytes.{Appends}
 use Rattle.std.proofs.KnownBytes.{Appends-trans, Appends-nil}
 use Rattle.std.proofs.lemmas.List.{map-append}
 use Rattle.select_ports.specs.Streams.{AppendsFront}
 use Rattle.select_ports.proofs.Told.{appends-front-after}
-use Rattle.event_frame.specs.Event.{Event, records as records_event, frame_of}
+use Rattle.event_frame.specs.Event.{Event, records as records_event}
 use Rattle.line_window.specs.Starts.{body, content, whole_len}
 use Rattle.line_window.specs.Sliding.{View, left, Holds}
 use Rattle.line_window.specs.Answers.{IsLineAt, IsLent, IsNextLine, IsSomeLine}
@@ -18,16 +18,16 @@ use Rattle.select_tool.specs.declared.outcome.Outcome.{Outcome}
 use Rattle.select_tool.specs.declared.outcome.Outcome.TheVariants.{Done, Faulted}
 use Rattle.select_tool.specs.Pieces.{whole_pieces, remainder}
 use Rattle.select_tool.specs.Records.{Record, record_at, is_record_at, records_at, is_too_long, is_passed_over, content_fault, unless_faulty, delimiter}
-use Rattle.select_tool.specs.Answer.{yielded, bytes_of, processed, output, fault, total_len}
+use Rattle.select_tool.specs.Answer.{yielded, processed, output, fault, total_len}
 use Rattle.select_tool.specs.Events.{answer_events, wrapped_frames}
 use Rattle.select_tool.specs.Begun.{Begun}
 use Rattle.select_tool.specs.LineAnswers.{Turn, passes, yields, faults, ends, turn_of, content_turn, turn_of_content, turn_events, turn_outcome, after_turn, goes_on, fault_events, end_events, begun_counts}
 use Rattle.select_tool.specs.Jobs.{outcome_of, answer_frames, whole_frames}
 use Rattle.select_tool.specs.Streaming.{begun_after, Streamed}
 use Rattle.select_tool.proofs.Cutting.{whole_pieces-append}
-use Rattle.select_tool.proofs.Framing.{wrapped_frames-append, more_pieces_added, front_after_pieces}
+use Rattle.select_tool.proofs.Framing.{wrapped_frames-append, more_pieces_added}
 use Rattle.select_tool.proofs.BoundLaws.{counts-fit}
-use Rattle.select_tool.proofs.AnswerLaws.{records_at-append, processed-append, fine_more, output_more, begun_more, answer_faulty, outcome_faulty, answer_whole, outcome_whole, answer_begins}
+use Rattle.select_tool.proofs.AnswerLaws.{records_at-append, fine_more, output_more, begun_more, answer_faulty, outcome_faulty, answer_whole, outcome_whole, answer_begins}
 
 -- a reply that was just begun
 abbrev pub unbegun : Begun

@@ -1,6 +1,5 @@
 -- A window from one line to the next.
-use Rattle.std.proofs.Common.{◌≡◌, ℕ, zero, suc, ◌+◌, ◌*◌, ◌-◌, ◌^◌, ◌<◌, ◌≤◌, min, List, Bool, false, Result, Ok, Err, refl, sym, ap, ◌∙◌, subst, arith}
-use Rattle.std.specs.Prelude.{is_err}
+use Rattle.std.proofs.Common.{◌≡◌, ℕ, zero, suc, ◌+◌, ◌*◌, ◌<◌, ◌≤◌, List, Result, Ok, Err, refl, sym, ◌∙◌, subst, arith}
 use Rattle.select_ports.specs.Causes.{RoseBy}
 use Rattle.select_ports.specs.Stored.{Opened, IsOpen}
 use Rattle.select_ports.specs.declared.outcome.Failed.{Failed}

@@ -1,5 +1,5 @@
 -- The answer of a query that selects every record as it is: what each record yields, which records are processed, and their output.
-use Rattle.std.specs.Prelude.{ℕ, ◌+◌, List, [], ◌∷◌, ◌++◌, sum_by, Result, Ok, Err, Option, None, Some}
+use Rattle.std.specs.Prelude.{ℕ, List, [], ◌∷◌, ◌++◌, sum_by, Result, Ok, Err, Option, None, Some}
 use Rattle.select_tool.specs.Records.{Record, delimiter}
 use Rattle.select_tool.specs.declared.code.Code.{Code}
 

@@ -1,5 +1,5 @@
 -- What is read of an input.
-use Rattle.std.specs.Prelude.{◌≡◌, ℕ, ◌+◌, ◌<◌, ◌≤◌, List, [], ◌++◌, length, take, Option, None, Some, IfSome}
+use Rattle.std.specs.Prelude.{◌≡◌, ℕ, ◌≤◌, List, [], ◌++◌, length, Option, IfSome}
 use Rattle.select_request.specs.Body.{longest_body}
 
 -- all that an input holds, as far as a body may go and one byte further

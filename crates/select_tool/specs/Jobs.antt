@@ -1,18 +1,17 @@
 -- What running a query makes of an open object.
-use Rattle.std.specs.Prelude.{◌≡◌, ℕ, ◌+◌, ◌-◌, ◌*◌, ◌≤◌, nat_le, List, [], ◌∷◌, ◌++◌, length, map, take_while, Option, None, Some, Result, Ok, Err, MatchResult}
+use Rattle.std.specs.Prelude.{◌≡◌, ℕ, ◌+◌, ◌*◌, nat_le, List, map, take_while, Option, None, Some, Result, MatchResult}
 use Rattle.std.specs.Io.KnownBytes.{Appends, Keeps}
 use Rattle.select_ports.specs.Causes.{Rose}
 use Rattle.select_ports.specs.Streams.{IsFront, AppendsFront}
-use Rattle.line_window.specs.Starts.{starts}
-use Rattle.event_frame.specs.Event.{Event, records as records_event}
+use Rattle.event_frame.specs.Event.{records as records_event}
 use Rattle.select_tool.specs.declared.code.Code.{Code}
 use Rattle.select_tool.specs.declared.outcome.Outcome.{Outcome}
 use Rattle.select_tool.specs.declared.outcome.Outcome.TheVariants.{Done, Faulted}
 use Rattle.select_tool.specs.declared.outcome.EngineError.{EngineError}
 use Rattle.select_tool.specs.declared.outcome.EngineError.TheVariants.{StoreFault, WriteFault, OutOfMemory}
 use Rattle.select_tool.specs.Pieces.{piece, whole_pieces}
-use Rattle.select_tool.specs.Records.{Record, records_at, delimiter}
-use Rattle.select_tool.specs.Answer.{processed, output, fault}
+use Rattle.select_tool.specs.Records.{Record}
+use Rattle.select_tool.specs.Answer.{output, fault}
 use Rattle.select_tool.specs.Events.{answer_events, counts_of, wrapped_frames}
 
 -- how the reply over the processed records ends

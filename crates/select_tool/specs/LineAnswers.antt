@@ -1,5 +1,5 @@
 -- What one line of the window adds to a reply that has begun.
-use Rattle.std.specs.Prelude.{ℕ, ◌+◌, List, [], ◌∷◌, ◌++◌, length, map, Bool, true, false, if◌then◌else◌, Option, None, Some}
+use Rattle.std.specs.Prelude.{ℕ, List, [], ◌∷◌, ◌++◌, length, map, if◌then◌else◌, Option, None, Some}
 use Rattle.event_frame.specs.declared.counts.Counts.{Counts}
 use Rattle.event_frame.specs.Event.{Event, records, end}
 use Rattle.event_frame.specs.CountsText.{stats_of}

@@ -1,5 +1,5 @@
 -- What a command answers to a body about an object.
-use Rattle.std.specs.Prelude.{◌≡◌, ◌⊎◌, ℕ, ◌≤◌, ◌<◌, List, [], Option, None, Some, IfSome, IsSome, ◌==◌, if◌then◌else◌, String}
+use Rattle.std.specs.Prelude.{◌≡◌, ◌⊎◌, ℕ, ◌<◌, List, [], Option, None, Some, IfSome, IsSome, ◌==◌, if◌then◌else◌, String}
 use Rattle.std.specs.declared.alloc.Global.{Global}
 use Rattle.std.specs.Io.KnownBytes.{Appends, Keeps}
 use Rattle.select_ports.specs.Causes.{Rose, RoseBy}

@@ -1,5 +1,5 @@
 -- The answer table: each status of a command with the line that stands on the error output.
-use Rattle.std.specs.Prelude.{◌≡◌, ℕ, List, [], ◌∷◌, ◌++◌, codes}
+use Rattle.std.specs.Prelude.{ℕ, List, [], ◌∷◌, ◌++◌, codes}
 use Rattle.select_tool.specs.declared.trouble.Trouble.{Trouble}
 use Rattle.select_tool.specs.declared.trouble.Trouble.TheVariants.{BadWords, NoSuchKey, InputFault, OutputFault, StoreFault, OutOfMemory}
 

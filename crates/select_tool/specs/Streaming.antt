@@ -1,5 +1,5 @@
 -- A reply while the lines of a window are answered, one after the other.
-use Rattle.std.specs.Prelude.{◌≡◌, ℕ, ◌-◌, ◌^◌, min, List, [], ◌++◌, length, Option, None}
+use Rattle.std.specs.Prelude.{◌≡◌, ℕ, ◌-◌, ◌^◌, min, List, ◌++◌, length, Option, None}
 use Rattle.std.specs.Io.KnownBytes.{Appends}
 use Rattle.line_window.specs.Sliding.{View, left, Holds}
 use Rattle.select_tool.specs.Pieces.{remainder}

@@ -1,4 +1,3 @@
-use Rattle.std.proofs.Common.{◌∙◌, ap, leb}
 use Rattle.select_tool.specs.Records.{is_comma}
 use Rattle.select_tool.proofs.Contents.{many_fields, few_fields}
 use Rattle.select_tool.proofs.content.has_too_many_fields.Goals as goal

@@ -1,6 +1,6 @@
-use Rattle.std.proofs.Common.{◌≡◌, ℕ, ◌+◌, ◌*◌, ◌-◌, ◌^◌, ◌<◌, ◌≤◌, List, length, refl, sym, ap, ◌∙◌, subst, arith}
+use Rattle.std.proofs.Common.{◌-◌, refl, sym, ap, ◌∙◌, subst, arith}
 use Rattle.std.specs.Prelude.{is_err}
-use Rattle.line_window.specs.Sliding.{View, left, place, Tells, Holds}
+use Rattle.line_window.specs.Sliding.{left}
 use Rattle.select_tool.specs.Begun.{Begun}
 use Rattle.select_tool.specs.Streaming.{Streamed}
 use Rattle.select_tool.proofs.StreamLaws.{stream_begins, stream_front, line_on, line_ended, line_front, stream_stays}

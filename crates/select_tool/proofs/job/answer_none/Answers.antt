@@ -1,7 +1,4 @@
-use Rattle.std.proofs.Common.{◌≡◌, ◌∙◌, sym}
-use Rattle.select_tool.specs.Begun.{Begun}
-use Rattle.select_tool.specs.LineAnswers.{begun_counts}
-use Rattle.select_tool.specs.declared.outcome.Outcome.TheVariants.{Done}
+use Rattle.std.proofs.Common.{◌∙◌, sym}
 use Rattle.select_tool.proofs.StreamLaws.{none_whole, none_front, none_outcome}
 use Rattle.select_tool.proofs.job.answer_none.Goals as goal
 

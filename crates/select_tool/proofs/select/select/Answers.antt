@@ -1,4 +1,4 @@
-use Rattle.std.proofs.Common.{◌≡◌, ◌-◌, List, ℕ, arith}
+use Rattle.std.proofs.Common.{◌≡◌, ◌-◌, arith}
 use Rattle.std.proofs.KnownBytes.{Keeps-refl}
 use Rattle.select_tool.specs.Records.{records}
 use Rattle.select_tool.specs.Answer.{processed}

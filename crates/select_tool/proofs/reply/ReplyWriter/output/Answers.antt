@@ -1,4 +1,4 @@
-use Rattle.std.proofs.Common.{◌≡◌, ◌∙◌, ◌++◌, sym, ap, List, length, length-append, ◌+◌}
+use Rattle.std.proofs.Common.{◌∙◌, ◌++◌, sym, ap, length, length-append, ◌+◌}
 use Rattle.std.proofs.lemmas.Result.{err_from_is_err_and}
 use Rattle.select_tool.specs.Records.{delimiter}
 use Rattle.select_tool.specs.Begun.{counted}
