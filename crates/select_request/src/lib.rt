@@ -11,3 +11,6 @@ mod request;
 pub use body::{LONGEST_BODY, read};
 pub use fault::{ReadError, RequestFault, RequestFaultCode};
 pub use request::{SelectRequest, TextBuf};
+
+#[cfg(test)]
+mod tests;

@@ -1,4 +1,5 @@
-//! The commands of the program, over any store, input and outputs.
+//! The reply of a command is exactly the frames of the events that the query means: the top call, from the words to the exit
+//! status, over any store, input and outputs.
 #![tactic(auto)]
 
 mod code;
@@ -14,3 +15,6 @@ mod trouble;
 mod words;
 
 pub use commands::run;
+
+#[cfg(test)]
+mod tests;
