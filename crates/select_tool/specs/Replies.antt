@@ -1,5 +1,6 @@
 -- What a command answers to a body about an object.
-use Rattle.std.specs.Prelude.{◌≡◌, ◌⊎◌, ℕ, ◌≤◌, ◌<◌, List, [], Option, None, Some, IfSome, IsSome, ◌==◌, if◌then◌else◌}
+use Rattle.std.specs.Prelude.{◌≡◌, ◌⊎◌, ℕ, ◌≤◌, ◌<◌, List, [], Option, None, Some, IfSome, IsSome, ◌==◌, if◌then◌else◌, String}
+use Rattle.std.specs.declared.alloc.Global.{Global}
 use Rattle.std.specs.Io.KnownBytes.{Appends, Keeps}
 use Rattle.select_ports.specs.Causes.{Rose, RoseBy}
 use Rattle.select_ports.specs.Streams.{AppendsFront}
@@ -10,6 +11,7 @@ use Rattle.select_tool.specs.declared.outcome.Outcome.{Outcome}
 use Rattle.select_tool.specs.declared.outcome.Outcome.TheVariants.{Done, Faulted}
 use Rattle.select_tool.specs.declared.trouble.Trouble.{Trouble}
 use Rattle.select_tool.specs.declared.trouble.Trouble.TheVariants.{BadWords, NoSuchKey, InputFault, OutputFault, StoreFault, OutOfMemory}
+use Rattle.select_tool.specs.Words.{selected}
 use Rattle.select_tool.specs.Prepared.{Prepares}
 use Rattle.select_tool.specs.Records.{records}
 use Rattle.select_tool.specs.Answer.{processed}
@@ -50,6 +52,10 @@ IsCutShort object body before now = Keeps before now ⊎ RepliedInPart object bo
 -- a fact of the object of a name and the body on the input, where the store tells that it holds the object and the input tells its bytes
 abbrev pub IfTold : Option Objects → Option (List ℕ) → List ℕ → (List ℕ → List ℕ → Type 0) → Type 0
 IfTold held left name P = IfSome held (λ objects. IfSome (objects name) (λ object. IfSome left (λ body. P object body)))
+
+-- the same for the words `select NAME`
+abbrev pub IfAsked : List (String Global) → Option Objects → Option (List ℕ) → (List ℕ → List ℕ → Type 0) → Type 0
+IfAsked words held left P = IfSome (selected words) (λ name. IfTold held left name P)
 
 -- the status of a command that was done: 1 where its reply has an Error event
 abbrev pub status_of_outcome : Outcome → ℕ
@@ -100,3 +106,12 @@ WritesUnlessFaulty faults_before faults_now before now bytes = ¬ (Rose faults_b
 abbrev pub IsHeld : Option Objects → List ℕ → Type 0
 IsHeld None name = ⊥
 IsHeld (Some objects) name = IsSome (objects name)
+
+-- the store tells what it holds, and has no object of the name
+abbrev pub IsLacking : Option Objects → List ℕ → Type 0
+IsLacking None name = ⊥
+IsLacking (Some objects) name = objects name ≡ None
+
+-- no object of the name was found, or the store failed first
+abbrev pub IsMissingOrFault : Trouble → Type 0
+IsMissingOrFault trouble = (trouble ≡ NoSuchKey) ⊎ (trouble ≡ StoreFault)

@@ -23,9 +23,13 @@ pub(crate) fn run_job<S: Store, K: FrameSink>(
 ) -> Result<Outcome, EngineError>
     requires object { IsOpen (S.current store.old) size }
     requires limit { limits.longest ≤ 16777216 }
-    ensures reply { (object : List ℕ) → Tells (S.current store.old) object → Answers K.wrap (processed (records limits.longest object)) (K.written out.old) (K.written out.new) result }
-    ensures early { (object : List ℕ) → Tells (S.current store.old) object → result ≡ Err EngineError.StoreFault → WroteEarly K.wrap limits.longest (S.taken store.new - S.taken store.old) (processed (records limits.longest object)) (K.written out.old) (K.written out.new) }
-    ensures cause { IfErr result (HasEngineCause (S.faults store.old) (S.faults store.new) (K.faults out.old) (K.faults out.new) (K.written out.old) (K.written out.new)) }
+    ensures reply { (object : List ℕ) → Tells (S.current store.old) object
+        → Answers K.wrap (processed (records limits.longest object)) (K.written out.old) (K.written out.new) result }
+    ensures early { (object : List ℕ) → Tells (S.current store.old) object → result ≡ Err EngineError.StoreFault
+        → WroteEarly K.wrap limits.longest (S.taken store.new - S.taken store.old)
+        (processed (records limits.longest object)) (K.written out.old) (K.written out.new) }
+    ensures cause { IfErr result (HasEngineCause (S.faults store.old) (S.faults store.new)
+        (K.faults out.old) (K.faults out.new) (K.written out.old) (K.written out.new)) }
     ensures taken { S.taken store.new ≤ S.taken store.old + size }
     ensures held { S.held store.new ≡ S.held store.old }
     ensures current { S.current store.new ≡ S.current store.old }
@@ -67,9 +71,16 @@ fn answer_lines<S: Store, K: FrameSink>(
     requires within { window.old.last < window.old.size }
     requires delimiter { window.old.delimiter ≡ delimiter }
     requires fresh { reply.old ≡ record { pending = []; scanned = 0; returned = 0 } }
-    ensures reply { (object : List ℕ) → Tells (S.current store.old) object → Holds object window.old → Answers K.wrap (processed (records_at window.old.longest object (left object window.old))) (K.written out.old) (K.written out.new) result }
-    ensures early { (object : List ℕ) → Tells (S.current store.old) object → Holds object window.old → window.old.upto ≡ 0 → result ≡ Err EngineError.StoreFault → WroteEarly K.wrap window.old.longest (S.taken store.new - S.taken store.old) (processed (records_at window.old.longest object (left object window.old))) (K.written out.old) (K.written out.new) }
-    ensures cause { IfErr result (HasEngineCause (S.faults store.old) (S.faults store.new) (K.faults out.old) (K.faults out.new) (K.written out.old) (K.written out.new)) }
+    ensures reply { (object : List ℕ) → Tells (S.current store.old) object → Holds object window.old
+        → Answers K.wrap (processed (records_at window.old.longest object (left object window.old)))
+        (K.written out.old) (K.written out.new) result }
+    ensures early { (object : List ℕ) → Tells (S.current store.old) object → Holds object window.old
+        → window.old.upto ≡ 0 → result ≡ Err EngineError.StoreFault
+        → WroteEarly K.wrap window.old.longest (S.taken store.new - S.taken store.old)
+        (processed (records_at window.old.longest object (left object window.old)))
+        (K.written out.old) (K.written out.new) }
+    ensures cause { IfErr result (HasEngineCause (S.faults store.old) (S.faults store.new)
+        (K.faults out.old) (K.faults out.new) (K.written out.old) (K.written out.new)) }
     ensures taken { S.taken store.new ≤ S.taken store.old + window.old.size }
     ensures held { S.held store.new ≡ S.held store.old }
     ensures current { S.current store.new ≡ S.current store.old }
@@ -95,7 +106,8 @@ fn answer_lines<S: Store, K: FrameSink>(
 fn answer_none<K: FrameSink>(reply: &mut ReplyWriter, out: &mut K) -> Result<Outcome, EngineError>
     requires fresh { reply.old ≡ record { pending = []; scanned = 0; returned = 0 } }
     ensures reply { Answers K.wrap [] (K.written out.old) (K.written out.new) result }
-    ensures cause { IfErr result (HasEngineCause 0 0 (K.faults out.old) (K.faults out.new) (K.written out.old) (K.written out.new)) }
+    ensures cause { IfErr result (HasEngineCause 0 0
+        (K.faults out.old) (K.faults out.new) (K.written out.old) (K.written out.new)) }
     ensures never { result ≡ Err EngineError.StoreFault → ⊥ }
     ensures out_faults { K.faults out.old ≤ K.faults out.new }
     ensures rest { K.rest out.new ≡ K.rest out.old }

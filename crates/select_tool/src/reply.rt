@@ -65,7 +65,8 @@ impl ReplyWriter {
 
     /// Adds to the output, and writes each piece that becomes whole.
     pub(crate) fn add<K: FrameSink>(&mut self, out: &mut K, bytes: &[u8]) -> Result<(), Failed>
-        ensures bytes { AddsAll (K.written out.old) (K.written out.new) result (wrapped_frames K.wrap (map records (whole_pieces (self.old.pending ++ bytes.now)))) }
+        ensures bytes { AddsAll (K.written out.old) (K.written out.new) result
+            (wrapped_frames K.wrap (map records (whole_pieces (self.old.pending ++ bytes.now)))) }
         ensures pending { OnOk result (self.new.pending ≡ remainder (self.old.pending ++ bytes.now)) }
         ensures scanned { self.new.scanned ≡ self.old.scanned }
         ensures returned { self.new.returned ≡ self.old.returned }
@@ -89,9 +90,11 @@ impl ReplyWriter {
         out: &mut K,
         line: Line<'_>,
     ) -> Result<Option<Outcome>, Failed>
-        ensures bytes { AddsAll (K.written out.old) (K.written out.new) result (wrapped_frames K.wrap (turn_events self.old (turn_of line.entry))) }
+        ensures bytes { AddsAll (K.written out.old) (K.written out.new) result
+            (wrapped_frames K.wrap (turn_events self.old (turn_of line.entry))) }
         ensures outcome { IfOk result (λ outcome. outcome ≡ turn_outcome self.old (turn_of line.entry)) }
-        ensures after { IfOk result (λ outcome. outcome ≡ None → self.new ≡ after_turn self.old (turn_of line.entry)) }
+        ensures after { IfOk result
+            (λ outcome. outcome ≡ None → self.new ≡ after_turn self.old (turn_of line.entry)) }
         ensures faults { HasCause (K.faults out.old) (K.faults out.new) result }
         ensures rest { K.rest out.new ≡ K.rest out.old }
     {
@@ -114,9 +117,12 @@ impl ReplyWriter {
         content: &[u8],
         whole: u64,
     ) -> Result<Option<Outcome>, Failed>
-        ensures bytes { AddsAll (K.written out.old) (K.written out.new) result (wrapped_frames K.wrap (turn_events self.old (content_turn start content.now whole))) }
-        ensures outcome { IfOk result (λ outcome. outcome ≡ turn_outcome self.old (content_turn start content.now whole)) }
-        ensures after { IfOk result (λ outcome. outcome ≡ None → self.new ≡ after_turn self.old (content_turn start content.now whole)) }
+        ensures bytes { AddsAll (K.written out.old) (K.written out.new) result
+            (wrapped_frames K.wrap (turn_events self.old (content_turn start content.now whole))) }
+        ensures outcome { IfOk result
+            (λ outcome. outcome ≡ turn_outcome self.old (content_turn start content.now whole)) }
+        ensures after { IfOk result
+            (λ outcome. outcome ≡ None → self.new ≡ after_turn self.old (content_turn start content.now whole)) }
         ensures faults { HasCause (K.faults out.old) (K.faults out.new) result }
         ensures rest { K.rest out.new ≡ K.rest out.old }
     {
@@ -136,7 +142,8 @@ impl ReplyWriter {
         content: &[u8],
         whole: u64,
     ) -> Result<Option<Outcome>, Failed>
-        ensures bytes { AddsAll (K.written out.old) (K.written out.new) result (wrapped_frames K.wrap (map records (whole_pieces (self.old.pending ++ (content.now ++ delimiter))))) }
+        ensures bytes { AddsAll (K.written out.old) (K.written out.new) result
+            (wrapped_frames K.wrap (map records (whole_pieces (self.old.pending ++ (content.now ++ delimiter))))) }
         ensures outcome { IfOk result (λ outcome. outcome ≡ None) }
         ensures after { OnOk result (self.new ≡ goes_on self.old (content.now ++ delimiter) whole) }
         ensures faults { HasCause (K.faults out.old) (K.faults out.new) result }
@@ -160,7 +167,8 @@ impl ReplyWriter {
 
     // Ends the reply with its counts.
     fn finish<K: FrameSink>(&mut self, out: &mut K) -> Result<Option<Outcome>, Failed>
-        ensures bytes { AddsAll (K.written out.old) (K.written out.new) result (wrapped_frames K.wrap (end_events self.old)) }
+        ensures bytes { AddsAll (K.written out.old) (K.written out.new) result
+            (wrapped_frames K.wrap (end_events self.old)) }
         ensures outcome { IfOk result (λ outcome. outcome ≡ Some (Outcome.Done (begun_counts self.old))) }
         ensures faults { HasCause (K.faults out.old) (K.faults out.new) result }
         ensures rest { K.rest out.new ≡ K.rest out.old }
@@ -189,7 +197,8 @@ impl ReplyWriter {
         code: Code,
         at: u64,
     ) -> Result<Option<Outcome>, Failed>
-        ensures bytes { AddsAll (K.written out.old) (K.written out.new) result (wrapped_frames K.wrap (fault_events self.old code at)) }
+        ensures bytes { AddsAll (K.written out.old) (K.written out.new) result
+            (wrapped_frames K.wrap (fault_events self.old code at)) }
         ensures outcome { IfOk result (λ outcome. outcome ≡ Some (Outcome.Faulted code at)) }
         ensures faults { HasCause (K.faults out.old) (K.faults out.new) result }
         ensures rest { K.rest out.new ≡ K.rest out.old }
@@ -201,7 +210,8 @@ impl ReplyWriter {
 
     // Writes the last piece of the output, unless it is empty.
     fn flush<K: FrameSink>(&mut self, out: &mut K) -> Result<(), Failed>
-        ensures bytes { AddsAll (K.written out.old) (K.written out.new) result (wrapped_frames K.wrap (last_events self.old)) }
+        ensures bytes { AddsAll (K.written out.old) (K.written out.new) result
+            (wrapped_frames K.wrap (last_events self.old)) }
         ensures faults { HasCause (K.faults out.old) (K.faults out.new) result }
         ensures rest { K.rest out.new ≡ K.rest out.old }
     {
@@ -222,7 +232,8 @@ impl ReplyWriter {
     // Writes the piece that these bytes complete.
     fn complete<K: FrameSink>(&mut self, out: &mut K, bytes: &[u8]) -> Result<(), Failed>
         requires { length self.old.pending + length bytes.now ≡ 65536 }
-        ensures bytes { AddsAll (K.written out.old) (K.written out.new) result (K.wrap (frame_of (records (self.old.pending ++ bytes.now)))) }
+        ensures bytes { AddsAll (K.written out.old) (K.written out.new) result
+            (K.wrap (frame_of (records (self.old.pending ++ bytes.now)))) }
         ensures pending { OnOk result (self.new.pending ≡ []) }
         ensures scanned { self.new.scanned ≡ self.old.scanned }
         ensures returned { self.new.returned ≡ self.old.returned }

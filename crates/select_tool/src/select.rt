@@ -1,5 +1,5 @@
 //! The command `select NAME`: the reply to the body on the input, about the object of that name.
-ghost use Rattle.std.specs.Prelude.{◌≡◌, ◌+◌, ◌-◌, ◌≤◌, ℕ, List, None, ⊤, [], ◌∷◌, Err, IfOk, IfErr, IfSome, MatchResult};
+ghost use Rattle.std.specs.Prelude.{◌≡◌, ◌+◌, ◌-◌, ◌≤◌, ℕ, List, None, ⊤, [], ◌∷◌, Err, IfOk, IfErr, IfSome, IsErrAnd, MatchResult};
 ghost use Rattle.std.specs.Io.KnownBytes.{Appends, Keeps};
 ghost use Rattle.select_ports.specs.Causes.{Rose};
 ghost use Rattle.select_ports.specs.Streams.{AppendsFront};
@@ -10,7 +10,7 @@ ghost use Rattle.select_tool.specs.Records.{records};
 ghost use Rattle.select_tool.specs.Answer.{processed};
 ghost use Rattle.select_tool.specs.Jobs.{WroteEarly};
 ghost use Rattle.select_tool.specs.Events.{wrapped_frames, error_event};
-ghost use Rattle.select_tool.specs.Replies.{IfTold, Replied, IsCutShort, Misses, CauseOf, reply_frames, reply_outcome, longest_record};
+ghost use Rattle.select_tool.specs.Replies.{IfTold, Replied, IsCutShort, IsLacking, IsMissingOrFault, Misses, CauseOf, reply_frames, reply_outcome, longest_record};
 
 use crate::code::Code;
 use crate::input::read_body;
@@ -33,10 +33,20 @@ pub(crate) fn select<S: Store, I: Source, O: Sink>(
     input: &mut I,
     out: &mut O,
 ) -> Result<Outcome, Trouble>
-    ensures reply { IfOk result (λ outcome. IfTold (S.held store.old) (I.left input.old) name.now (λ object body. Replied object body outcome (O.written out.old) (O.written out.new))) }
-    ensures front { IfErr result (λ trouble. IfTold (S.held store.old) (I.left input.old) name.now (λ object body. IsCutShort object body (O.written out.old) (O.written out.new))) }
-    ensures cause { IfErr result (λ trouble. CauseOf trouble (Misses (S.held store.old) name.now (S.current store.new) (S.absent store.old) (S.absent store.new)) (Rose (I.faults input.old) (I.faults input.new)) (Rose (O.faults out.old) (O.faults out.new)) (Rose (S.faults store.old) (S.faults store.new)) (Keeps (O.written out.old) (O.written out.new))) }
-    ensures early { result ≡ Err Trouble.StoreFault → IfTold (S.held store.old) (I.left input.old) name.now (λ object body. WroteEarly (λ frame. frame) longest_record (S.taken store.new - S.taken store.old) (processed (records longest_record object)) (O.written out.old) (O.written out.new)) }
+    ensures reply { IfOk result (λ outcome. IfTold (S.held store.old) (I.left input.old) name.now
+        (λ object body. Replied object body outcome (O.written out.old) (O.written out.new))) }
+    ensures front { IfErr result (λ trouble. IfTold (S.held store.old) (I.left input.old) name.now
+        (λ object body. IsCutShort object body (O.written out.old) (O.written out.new))) }
+    ensures early { result ≡ Err Trouble.StoreFault → IfTold (S.held store.old) (I.left input.old) name.now
+        (λ object body. WroteEarly (λ frame. frame) longest_record (S.taken store.new - S.taken store.old)
+        (processed (records longest_record object)) (O.written out.old) (O.written out.new)) }
+    ensures cause { IfErr result (λ trouble. CauseOf trouble
+        (Misses (S.held store.old) name.now (S.current store.new) (S.absent store.old) (S.absent store.new))
+        (Rose (I.faults input.old) (I.faults input.new))
+        (Rose (O.faults out.old) (O.faults out.new))
+        (Rose (S.faults store.old) (S.faults store.new))
+        (Keeps (O.written out.old) (O.written out.new))) }
+    ensures missing { IsLacking (S.held store.old) name.now → IsErrAnd result IsMissingOrFault }
     ensures taken { IfSome (S.current store.new) (λ object. S.taken store.new ≤ S.taken store.old + object.0) }
     ensures held { S.held store.new ≡ S.held store.old }
 {
@@ -48,7 +58,10 @@ pub(crate) fn select<S: Store, I: Source, O: Sink>(
 // Opens the object of the name, and tells its size.
 fn open<S: Store>(store: &mut S, name: &str) -> Result<u64, Trouble>
     ensures opened { IfOk result (λ size. OpensName (S.held store.old) name.now size (S.current store.new)) }
-    ensures cause { IfErr result (λ trouble. CauseOf trouble (Misses (S.held store.old) name.now (S.current store.new) (S.absent store.old) (S.absent store.new)) ⊥ ⊥ ((S.current store.new ≡ None) × Rose (S.faults store.old) (S.faults store.new)) ⊤) }
+    ensures cause { IfErr result (λ trouble. CauseOf trouble
+        (Misses (S.held store.old) name.now (S.current store.new) (S.absent store.old) (S.absent store.new))
+        ⊥ ⊥ ((S.current store.new ≡ None) × Rose (S.faults store.old) (S.faults store.new)) ⊤) }
+    ensures missing { IsLacking (S.held store.old) name.now → IsErrAnd result IsMissingOrFault }
     ensures memory { result ≡ Err Trouble.OutOfMemory → ⊥ }
     ensures taken { S.taken store.new ≡ S.taken store.old }
     ensures held { S.held store.new ≡ S.held store.old }
@@ -82,9 +95,17 @@ fn write_reply<S: Store, K: FrameSink>(
     out: &mut K,
 ) -> Result<Outcome, Trouble>
     requires { IsOpen (S.current store.old) size }
-    ensures reply { (object : List ℕ) → Tells (S.current store.old) object → MatchResult result (λ outcome. Appends (K.written out.old) (K.written out.new) (reply_frames K.wrap object asked.now) × (outcome ≡ reply_outcome object asked.now)) (λ _. AppendsFront (K.written out.old) (K.written out.new) (reply_frames K.wrap object asked.now)) }
-    ensures early { (object : List ℕ) → Tells (S.current store.old) object → result ≡ Err Trouble.StoreFault → WroteEarly K.wrap longest_record (S.taken store.new - S.taken store.old) (processed (records longest_record object)) (K.written out.old) (K.written out.new) }
-    ensures cause { IfErr result (λ trouble. CauseOf trouble ⊥ ⊥ (Rose (K.faults out.old) (K.faults out.new)) (Rose (S.faults store.old) (S.faults store.new)) (Keeps (K.written out.old) (K.written out.new))) }
+    ensures reply { (object : List ℕ) → Tells (S.current store.old) object → MatchResult result
+        (λ outcome. Appends (K.written out.old) (K.written out.new) (reply_frames K.wrap object asked.now)
+        × (outcome ≡ reply_outcome object asked.now))
+        (λ _. AppendsFront (K.written out.old) (K.written out.new) (reply_frames K.wrap object asked.now)) }
+    ensures early { (object : List ℕ) → Tells (S.current store.old) object → result ≡ Err Trouble.StoreFault
+        → WroteEarly K.wrap longest_record (S.taken store.new - S.taken store.old)
+        (processed (records longest_record object)) (K.written out.old) (K.written out.new) }
+    ensures cause { IfErr result (λ trouble. CauseOf trouble ⊥ ⊥
+        (Rose (K.faults out.old) (K.faults out.new))
+        (Rose (S.faults store.old) (S.faults store.new))
+        (Keeps (K.written out.old) (K.written out.new))) }
     ensures taken { S.taken store.new ≤ S.taken store.old + size }
     ensures held { S.held store.new ≡ S.held store.old }
     ensures current { S.current store.new ≡ S.current store.old }
@@ -105,8 +126,12 @@ fn write_reply<S: Store, K: FrameSink>(
 
 // Writes the one Error event of a refusal.
 fn refuse<K: FrameSink>(alloc: Global, code: Code, at: u64, out: &mut K) -> Result<Outcome, Trouble>
-    ensures reply { MatchResult result (λ outcome. Appends (K.written out.old) (K.written out.new) (wrapped_frames K.wrap (error_event code at ∷ [])) × (outcome ≡ Outcome.Faulted code at)) (λ _. AppendsFront (K.written out.old) (K.written out.new) (wrapped_frames K.wrap (error_event code at ∷ []))) }
-    ensures cause { IfErr result (λ trouble. CauseOf trouble ⊥ ⊥ (Rose (K.faults out.old) (K.faults out.new)) ⊥ (Keeps (K.written out.old) (K.written out.new))) }
+    ensures reply { MatchResult result
+        (λ outcome. Appends (K.written out.old) (K.written out.new) (wrapped_frames K.wrap (error_event code at ∷ []))
+        × (outcome ≡ Outcome.Faulted code at))
+        (λ _. AppendsFront (K.written out.old) (K.written out.new) (wrapped_frames K.wrap (error_event code at ∷ []))) }
+    ensures cause { IfErr result (λ trouble. CauseOf trouble ⊥ ⊥
+        (Rose (K.faults out.old) (K.faults out.new)) ⊥ (Keeps (K.written out.old) (K.written out.new))) }
     ensures rest { K.rest out.new ≡ K.rest out.old }
 {
     let Ok(mut reply) = ReplyWriter::make(alloc) else {
