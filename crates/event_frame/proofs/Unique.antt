@@ -64,20 +64,20 @@ same_headers : (pre hs gs : List Header) (r s : List ℕ) → AreHeaders (pre ++
 same_headers pre [] [] r s are are' e ends ends' = record { headers = refl; behind = e }
 same_headers pre [] (g ∷ gs) r s are are' e ends ends' =
     absurd (not_closed pre g gs r (print_headers gs ++ s) are' (e ∙ append_assoc (print_header g) (print_headers gs) s)
-        (subst (λ (l : List Header). (r ≡ []) ⊎ StopsAt l r) (append-nil pre) ends))
+    (subst (λ (l : List Header). (r ≡ []) ⊎ StopsAt l r) (append-nil pre) ends))
 same_headers pre (h ∷ hs) [] r s are are' e ends ends' =
     absurd (not_closed pre h hs s (print_headers hs ++ r) are (sym e ∙ append_assoc (print_header h) (print_headers hs) r)
-        (subst (λ (l : List Header). (s ≡ []) ⊎ StopsAt l s) (append-nil pre) ends'))
+    (subst (λ (l : List Header). (s ≡ []) ⊎ StopsAt l s) (append-nil pre) ends'))
 same_headers pre (h ∷ hs) (g ∷ gs) r s are are' e ends ends' =
     let u = header-unique h g (print_headers hs ++ r) (print_headers gs ++ s) (comes_new pre h hs are).0 (comes_new pre g gs are').0
-        (sym (append_assoc (print_header h) (print_headers hs) r) ∙ e ∙ append_assoc (print_header g) (print_headers gs) s) in
+    (sym (append_assoc (print_header h) (print_headers hs) r) ∙ e ∙ append_assoc (print_header g) (print_headers gs) s) in
     let one : h ≡ g = header_same h g u.name u.value in
     let shift : pre ++ g ∷ gs ≡ (pre ++ h ∷ []) ++ gs =
-        sym (append_snoc pre g gs) ∙ ap (λ (k : Header). (pre ++ k ∷ []) ++ gs) (sym one) in
+    sym (append_snoc pre g gs) ∙ ap (λ (k : Header). (pre ++ k ∷ []) ++ gs) (sym one) in
     let next = same_headers (pre ++ h ∷ []) hs gs r s
-        (subst AreHeaders (sym (append_snoc pre h hs)) are) (subst AreHeaders shift are') u.rest
-        (subst (λ (l : List Header). (r ≡ []) ⊎ StopsAt l r) (sym (append_snoc pre h hs)) ends)
-        (subst (λ (l : List Header). (s ≡ []) ⊎ StopsAt l s) shift ends') in
+    (subst AreHeaders (sym (append_snoc pre h hs)) are) (subst AreHeaders shift are') u.rest
+    (subst (λ (l : List Header). (r ≡ []) ⊎ StopsAt l r) (sym (append_snoc pre h hs)) ends)
+    (subst (λ (l : List Header). (s ≡ []) ⊎ StopsAt l s) shift ends') in
     record {
       headers = ap (λ (k : Header). k ∷ hs) one ∙ ap (λ (l : List Header). g ∷ l) next.headers;
       behind = next.behind;
@@ -118,7 +118,7 @@ crc_of-small bytes =
     let p : List Bool = plus (m ++ replicate 32 false) (replicate 32 true) in
     let size : length p ≡ length m + 32 = length-plus (m ++ replicate 32 false) (replicate 32 true) ∙ length-append m (replicate 32 false) in
     let rest : length (map not (remainder (length m) p)) ≡ 32 =
-        length-map not (remainder (length m) p) ∙ length-remainder (length m) p ∙ omega arith in
+    length-map (remainder (length m) p) not ∙ length-remainder (length m) p ∙ omega arith in
     subst (λ k. number_of (map not (remainder (length m) p)) < 2 ^ k) rest (number_of-small (map not (remainder (length m) p)))
 
 -- ---- frames are whole and have good CRCs
@@ -157,8 +157,12 @@ good_prelude : (bytes : List ℕ) → number_at bytes 8 ≡ crc_of (take 8 bytes
     → number_at bytes 0 ≤ longest_frame → prelude_fault bytes ≡ None
 unfolding prelude_fault
 good_prelude bytes crc least fits most =
-    rw (eq-eqb (number_at bytes 8) (crc_of (take 8 bytes)) crc, le-ltb (number_at bytes 0) 16 least,
-        le-ltb (number_at bytes 0 - 16) (number_at bytes 4) fits, le-ltb longest_frame (number_at bytes 0) most) refl
+    rw (
+      eq-eqb (number_at bytes 8) (crc_of (take 8 bytes)) crc,
+      le-ltb (number_at bytes 0) 16 least,
+      le-ltb (number_at bytes 0 - 16) (number_at bytes 4) fits,
+      le-ltb longest_frame (number_at bytes 0) most,
+    ) refl
 
 -- a message that isn't too long is whole and good
 pub message-good : (bytes headers payload : List ℕ) → bytes ≡ message_of headers payload → length bytes ≤ longest_frame → IsGood bytes
@@ -169,14 +173,14 @@ message-good bytes headers payload is small =
         prelude = record {
           whole = omega (arith, p.size);
           sound = good_prelude bytes
-            (ap (λ (l : List ℕ). number_at l 8) is ∙ message-prelude_crc headers payload ∙ ap (λ (l : List ℕ). crc_of (take 8 l)) (sym is))
-            (omega (arith, p.size, p.total)) (omega (arith, p.size, p.total, p.headers_size)) (omega (arith, p.total));
+              (ap (λ (l : List ℕ). number_at l 8) is ∙ message-prelude_crc headers payload ∙ ap (λ (l : List ℕ). crc_of (take 8 l)) (sym is))
+              (omega (arith, p.size, p.total)) (omega (arith, p.size, p.total, p.headers_size)) (omega (arith, p.total));
         };
         size = sym p.total;
       };
       crc =
-        ap (λ (l : List ℕ). number_at l (length l - 4)) is ∙ message-crc headers payload
-        ∙ ap (λ (l : List ℕ). crc_of (take (length l - 4) l)) (sym is);
+          ap (λ (l : List ℕ). number_at l (length l - 4)) is ∙ message-crc headers payload
+          ∙ ap (λ (l : List ℕ). crc_of (take (length l - 4) l)) (sym is);
     }
 
 -- ---- one outcome
