@@ -19,7 +19,7 @@ bytes_eq-true a b e = (bytes_eq-Decides a b).0 e
 pub bytes_eq-same : (a : List ℕ) → bytes_eq a a ≡ true
 bytes_eq-same a = (bytes_eq-Decides a a).1 refl
 
-bytes_eq-false : (a b : List ℕ) → bytes_eq a b ≡ false → bytes_eq b a ≡ false
+pub bytes_eq-false : (a b : List ℕ) → bytes_eq a b ≡ false → bytes_eq b a ≡ false
 bytes_eq-false a b e = told (bytes_eq b a) refl
   where
     told : (r : Bool) → bytes_eq b a ≡ r → r ≡ false
@@ -29,11 +29,11 @@ bytes_eq-false a b e = told (bytes_eq b a) refl
         absurd (let both : bytes_eq a b ≡ true = ap (λ (l : List ℕ). bytes_eq a l) same ∙ bytes_eq-same a in cc)
 
 -- no header of this name: neither the first nor a later one
-first_differs : (b : Bool) (v : List ℕ) (o : Option (List ℕ)) → cond b (Some v) o ≡ None → b ≡ false
+pub first_differs : (b : Bool) (v : List ℕ) (o : Option (List ℕ)) → cond b (Some v) o ≡ None → b ≡ false
 first_differs true v o e = absurd (cc)
 first_differs false v o e = refl
 
-others_lack : (b : Bool) (v : List ℕ) (o : Option (List ℕ)) → cond b (Some v) o ≡ None → o ≡ None
+pub others_lack : (b : Bool) (v : List ℕ) (o : Option (List ℕ)) → cond b (Some v) o ≡ None → o ≡ None
 others_lack true v o e = absurd (cc)
 others_lack false v o e = e
 

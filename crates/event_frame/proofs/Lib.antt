@@ -11,3 +11,4 @@ pub mod IntakeLaws
 pub mod ReaderLaws
 pub mod Readings
 pub mod RegisterLaws
+pub mod Unique

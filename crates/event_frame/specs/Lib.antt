@@ -10,3 +10,4 @@ pub mod Reading
 pub mod Register
 pub mod Shown
 pub mod Steps
+pub mod Stream

@@ -12,6 +12,7 @@ mod intake;
 mod message;
 mod products;
 mod reader;
+mod stream;
 #[cfg(test)]
 mod tests;
 mod writer;
@@ -21,4 +22,5 @@ pub use crc::crc32;
 pub use event::EventView;
 pub use fault::{FrameFault, FrameFaultCode};
 pub use reader::FrameReader;
+pub use stream::stream_has_one_reading;
 pub use writer::FrameWriter;
