@@ -57,9 +57,12 @@ pub fn read_piece<S: Store>(
     store.read_at(at, piece)
 }
 
-/// The first place of a byte.
+/// The first place of a byte. On the way to the next line that is mostly place 0, which is looked at before a search is begun.
 pub fn find(byte: u8, bytes: &[u8]) -> Option<usize>
     ensures { MatchOption result (HasNone byte bytes.now (length bytes.now)) (IsFirstAt byte bytes.now) }
 {
+    if bytes.first() == Some(&byte) {
+        return Some(0);
+    }
     memchr(byte, bytes)
 }

@@ -1,4 +1,4 @@
-//! The world outside the engine as five traits, whose calls fail only where a count of faults rose: a store of objects,
+//! The world outside the engine as four traits, whose calls fail only where a count of faults rose: a store of objects,
 //! an input, an output and a sink of frames, each in memory and over the real thing.
 #![tactic(auto)]
 

@@ -38,7 +38,7 @@ pub(crate) fn content_fault(content: &[u8]) -> Option<Code>
 fn is_text(content: &[u8]) -> bool
     ensures { result ≡ is_utf8 content.now }
 {
-    simdutf8::is_utf8(content)
+    content.is_ascii() || simdutf8::is_utf8(content)
 }
 
 fn holds_quote(content: &[u8]) -> bool
