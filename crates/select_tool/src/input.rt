@@ -5,10 +5,11 @@ ghost use Rattle.select_ports.specs.Causes.{HasCause, Rose};
 ghost use Rattle.select_tool.specs.Input.{IsReadFrom};
 ghost use Rattle.select_tool.specs.Replies.{CauseOf};
 
+use crate::room::room;
 use crate::trouble::Trouble;
 use select_ports::{Failed, Source};
 use select_request::LONGEST_BODY;
-use std::alloc::{AllocError, Global};
+use std::alloc::Global;
 
 /// Reads the body to its end, or to one byte past the longest that is taken.
 pub(crate) fn read_body<I: Source>(alloc: Global, input: &mut I) -> Result<Vec<u8>, Trouble>
@@ -25,13 +26,6 @@ pub(crate) fn read_body<I: Source>(alloc: Global, input: &mut I) -> Result<Vec<u
         }
         Err(Failed) => Err(Trouble::InputFault),
     }
-}
-
-// Room for so many bytes.
-fn room(alloc: Global, len: usize) -> Result<Vec<u8>, AllocError>
-    ensures { IfOk result (λ room. length room.items ≡ len) }
-{
-    vec![in alloc; 0; len]
 }
 
 // Reads until the buffer is full or the input ends.

@@ -1,8 +1,7 @@
 //! Running a query over the store's open object: each record is lent from a window and answered before the next is read.
 ghost use Rattle.std.specs.Prelude.{◌≡◌, ℕ, ◌+◌, ◌-◌, ◌^◌, ◌<◌, ◌≤◌, [], false, List, length, Err, IfErr};
 ghost use Rattle.select_ports.specs.Stored.{IsOpen};
-ghost use Rattle.line_window.specs.Starts.{starts};
-ghost use Rattle.line_window.specs.Sliding.{Tells, Holds, IsSound, Took, left};
+ghost use Rattle.line_window.specs.Sliding.{Tells, Holds, IsSound, left};
 ghost use Rattle.select_tool.specs.Records.{records, records_at, delimiter};
 ghost use Rattle.select_tool.specs.Answer.{processed};
 ghost use Rattle.select_tool.specs.Jobs.{Answers, WroteEarly, HasEngineCause};

@@ -10,6 +10,7 @@ mod job;
 mod outcome;
 mod prepare;
 mod reply;
+mod room;
 mod select;
 mod trouble;
 mod words;

@@ -1,14 +1,10 @@
 //! Writing a reply: the output in whole pieces as it grows, and then what closes the reply.
-ghost use Rattle.std.specs.Prelude.{◌≡◌, ◌+◌, ◌-◌, ◌<◌, ◌≤◌, [], ◌∷◌, ◌++◌, length, take, map, None, Some, IfOk, OnOk};
-ghost use Rattle.select_ports.specs.Causes.{HasCause};
-ghost use Rattle.select_ports.specs.Streams.{AddsAll};
-ghost use Rattle.event_frame.specs.Event.{records, frame_of};
-ghost use Rattle.select_tool.specs.Pieces.{whole_pieces, remainder};
-ghost use Rattle.select_tool.specs.Events.{wrapped_frames, error_event};
+ghost use Rattle.std.specs.Prelude.{◌≡◌, ◌+◌, ◌≤◌, ◌++◌, length, take};
 
 use crate::code::{Code, message};
 use crate::content::{content_fault, is_passed_over};
 use crate::outcome::Outcome;
+use crate::room::room;
 use event_frame::{Counts, FrameWriter};
 use line_window::Line;
 use select_ports::{Failed, FrameSink};
@@ -41,12 +37,12 @@ impl Model for ReplyWriter {
 }
 
 impl ReplyWriter {
-    ghost use Rattle.std.specs.Prelude.{◌≡◌, ◌+◌, ◌-◌, ◌<◌, ◌≤◌, [], ◌∷◌, ◌++◌, length, take, map, None, Some, IfOk, OnOk};
+    ghost use Rattle.std.specs.Prelude.{◌≡◌, ◌+◌, ◌<◌, [], ◌++◌, length, map, None, Some, IfOk, OnOk};
     ghost use Rattle.select_ports.specs.Causes.{HasCause};
     ghost use Rattle.select_ports.specs.Streams.{AddsAll};
     ghost use Rattle.event_frame.specs.Event.{records, frame_of};
     ghost use Rattle.select_tool.specs.Pieces.{whole_pieces, remainder};
-    ghost use Rattle.select_tool.specs.Events.{wrapped_frames, error_event};
+    ghost use Rattle.select_tool.specs.Events.{wrapped_frames};
     ghost use Rattle.select_tool.specs.Begun.{counted};
     ghost use Rattle.select_tool.specs.Records.{delimiter};
     ghost use Rattle.select_tool.specs.LineAnswers.{turn_of, content_turn, turn_events, turn_outcome, after_turn, goes_on, end_events, fault_events, last_events, begun_counts};
@@ -263,11 +259,4 @@ fn put(buffer: &mut [u8], at: usize, bytes: &[u8])
     ensures { take (at + length bytes.now) buffer.new ≡ take at buffer.old ++ bytes.now }
 {
     buffer[at..at + bytes.len()].copy_from_slice(bytes);
-}
-
-// Room for so many bytes.
-fn room(alloc: Global, len: usize) -> Result<Vec<u8>, AllocError>
-    ensures { IfOk result (λ room. length room.items ≡ len) }
-{
-    vec![in alloc; 0; len]
 }
