@@ -10,7 +10,7 @@ use Rattle.event_frame.specs.Message.{Header, print_header, print_headers}
 use Rattle.event_frame.specs.Event.{header}
 use Rattle.event_frame.specs.Reading.{IsHeader, AreHeaders, value_of}
 use Rattle.event_frame.specs.HeaderFront.{HasNoHeader, SpellsHeader, EndsWell, EndsBadly}
-use Rattle.event_frame.proofs.HeaderLaws.{header-unique, header-shorter}
+use Rattle.event_frame.proofs.HeaderLaws.{header-unique}
 
 -- equal texts are told
 pub bytes_eq-true : (a b : List ℕ) → bytes_eq a b ≡ true → a ≡ b

@@ -14,3 +14,4 @@ pub mod ReaderLaws
 pub mod Readings
 pub mod RegisterLaws
 pub mod Unique
+pub mod Written
