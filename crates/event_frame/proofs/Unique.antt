@@ -37,10 +37,7 @@ comes_new (g ∷ pre) h hs are =
     let differs : bytes_eq g.name h.name ≡ false = bytes_eq-false h.name g.name (lacks_member g.name pre h hs are.1) in
     (next.0, ap (λ (b : Bool). cond b (Some g.value) (value_of h.name pre)) differs ∙ next.1)
 
--- good headers end at the end, or where a bad one stands
-Closes : List Header → List ℕ → Type 0
-Closes headers rest = (rest ≡ []) ⊎ StopsAt headers rest
-
+-- no header that can be written and has a new name stands where good headers end
 not_closed : (pre : List Header) (h : Header) (hs : List Header) (rest more : List ℕ) → AreHeaders (pre ++ h ∷ hs) → rest ≡ print_header h ++ more
     → (rest ≡ []) ⊎ StopsAt pre rest → ⊥
 not_closed pre h hs rest more are e (inl none) =

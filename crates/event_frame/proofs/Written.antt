@@ -1,5 +1,9 @@
 -- The frames that are written for events are frames of those events.
 use Rattle.std.proofs.Common.{◌≡◌, ℕ, ◌+◌, ◌<◌, ◌≤◌, List, [], ◌∷◌, length, Some, refl, arith, length-append}
+use Rattle.std.specs.Prelude.{decimal}
+use Rattle.itoa.proofs.Decimal.{length_wide}
+use Rattle.event_frame.specs.CountsText.{CountsFit, progress_of, stats_of, print_counts, print_element, opening}
+use Rattle.event_frame.specs.declared.counts.Counts.{Counts}
 use Rattle.event_frame.specs.Message.{print_header, print_headers}
 use Rattle.event_frame.specs.Event.{Event, records, cont, progress, stats, end, error, header, headers_of, payload_of, frame_of}
 use Rattle.event_frame.specs.Reading.{IsHeader, AreHeaders, event_meant, IsFrame}
@@ -77,3 +81,11 @@ spelled (event ∷ events) fit = (
   record { frame = frame_of event; joined = refl; is_frame = written event fit.0 },
   spelled events fit.1,
 )
+
+pub counts_fit : (c : Counts) → CountsFit c → PartsFit (progress_of c) × PartsFit (stats_of c)
+unfolding print_counts print_element opening
+counts_fit c fit =
+    let scanned : length (decimal c.scanned) ≤ 39 = length_wide c.scanned fit.scanned in
+    let processed : length (decimal c.processed) ≤ 39 = length_wide c.processed fit.processed in
+    let returned : length (decimal c.returned) ≤ 39 = length_wide c.returned fit.returned in
+    (simp length-append (omega arith), simp length-append (omega arith))

@@ -14,6 +14,12 @@ use std::cmp::Ordering;
 // The kind of a header whose value is a string.
 pub(crate) const STRING_KIND: u8 = 7;
 
+// The most headers that the longest frame can have: one takes 5 bytes or more.
+pub(crate) const MOST_HEADERS: usize = 3_355_440;
+
+// A message of fewer headers is looked through with no list of their places.
+const FEW_HEADERS: usize = 33;
+
 // The value of the header of this name.
 pub(crate) fn value<'h>(headers: &'h [u8], name: &[u8]) -> Option<&'h [u8]>
     ensures { (good : List Header) → AreHeaders good → headers.now ≡ print_headers good → option_copied result ≡ value_of name.now good }
@@ -28,14 +34,8 @@ pub(crate) fn value<'h>(headers: &'h [u8], name: &[u8]) -> Option<&'h [u8]>
     None
 }
 
-// The most headers that the longest frame can have: one takes 5 bytes or more.
-pub(crate) const MOST_HEADERS: usize = 3_355_440;
-
-// A message of fewer headers is looked through with no list of their places.
-const FEW_HEADERS: usize = 33;
-
 // The place of the first header that is bad: one that can't be written, or whose name came before.
-// It takes O(n log n) time in the bytes, and no memory.
+// n bytes cost O(n log n) time and no memory.
 pub(crate) fn first_bad(headers: &[u8], places: &mut Vec<u32>) -> Option<usize>
     requires small { length headers.now ≤ 16777200 }
     requires room { 3355440 ≤ vec_capacity places.old }
@@ -60,8 +60,8 @@ pub(crate) fn first_bad(headers: &[u8], places: &mut Vec<u32>) -> Option<usize>
     first_bad_of_many(headers, places)
 }
 
-// The same by the order of the names: of two headers of one name, the second's place has a left
-// neighbour of that name.
+// The same through a list of the places, sorted by the names that stand there and at one name by the
+// places: a header's name came before exactly where its place's left neighbour has that name.
 fn first_bad_of_many(headers: &[u8], places: &mut Vec<u32>) -> Option<usize>
     requires small { length headers.now ≤ 16777200 }
     requires room { 3355440 ≤ vec_capacity places.old }
@@ -79,7 +79,7 @@ fn first_bad_of_many(headers: &[u8], places: &mut Vec<u32>) -> Option<usize>
     }
 }
 
-// Makes `places` the places of all headers that can be written, and gives their end.
+// Makes `places` the places of the headers up to the first that can't be written, and gives their end.
 fn list_headers(headers: &[u8], places: &mut Vec<u32>) -> usize
     requires small { length headers.now ≤ 16777200 }
     requires room { 3355440 ≤ vec_capacity places.old }
@@ -95,6 +95,7 @@ fn list_headers(headers: &[u8], places: &mut Vec<u32>) -> usize
     headers.len() - rest.len()
 }
 
+// Sorts the places by the names that stand there, and at one name by the places.
 fn sort_by_name(headers: &[u8], places: &mut Vec<u32>)
     ensures moved { IsPermutation places.old.items places.new.items }
     ensures sorted { IsSortedBy (λ p q. is_lt (by_name headers.now p q)) places.new.items }
@@ -103,6 +104,7 @@ fn sort_by_name(headers: &[u8], places: &mut Vec<u32>)
     places.sort_unstable_by(|p, q| by_name(headers, *p, *q));
 }
 
+// The order of two places.
 fn by_name(headers: &[u8], p: u32, q: u32) -> Ordering
     ensures { result ≡ by_name headers.now p q }
 {
@@ -111,6 +113,7 @@ fn by_name(headers: &[u8], p: u32, q: u32) -> Ordering
         .then(p.cmp(&q))
 }
 
+// The least place whose left neighbour has the same name; the end, where there is none.
 fn least_repeat(headers: &[u8], places: &[u32], end: usize) -> usize
     ensures { IsLeastRepeat headers.now places.now end result }
 {
@@ -124,6 +127,7 @@ fn least_repeat(headers: &[u8], places: &[u32], end: usize) -> usize
     least
 }
 
+// The name of the header at a place.
 #[tactic(auto, unfolding(crate::specs::HeaderPlaces::name_at))]
 fn name_at(headers: &[u8], place: u32) -> &[u8]
     ensures { result.now ≡ name_at headers.now place }
