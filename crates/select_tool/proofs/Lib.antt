@@ -1,3 +1,6 @@
+pub mod LineLaws
+pub mod ListingLaws
+pub mod EndingLaws
 pub mod Contents
 pub mod Cutting
 pub mod Filling

@@ -7,11 +7,15 @@ mod commands;
 mod content;
 mod input;
 mod job;
+mod lister;
+mod listing;
 mod outcome;
 mod prepare;
+mod replies;
 mod reply;
 mod room;
 mod select;
+mod show;
 mod trouble;
 mod words;
 
