@@ -246,8 +246,14 @@ gone_bad bytes more listing place a b within answers =
             faulty = answers.faulty.faulty;
           };
         };
-        placed = omega (arith, answers.placed, ap length front, length-append bytes read, length-append answers.rest read,
-          length-rest bytes answers.events answers.rest answers.spelled);
+        placed = omega (
+          arith,
+          answers.placed,
+          ap length front,
+          length-append bytes read,
+          length-append answers.rest read,
+          length-rest bytes answers.events answers.rest answers.spelled,
+        );
       });
       output = answers.output;
       lists = answers.lists;

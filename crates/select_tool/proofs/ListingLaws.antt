@@ -26,27 +26,27 @@ use Rattle.select_tool.specs.Listening.{Stand, after_event, after_events, IsRead
 pub spells_more : (bytes : List ℕ) (events : List Event) (rest more : List ℕ) → SpellsEvents bytes events rest → SpellsEvents (bytes ++ more) events (rest ++ more)
 spells_more bytes [] rest more spelled = ap (λ l. l ++ more) spelled
 spells_more bytes (e ∷ events) rest more spelled = (
-    spelled.0 ++ more,
-    record {
-      frame = spelled.1.frame;
-      joined = ap (λ l. l ++ more) spelled.1.joined ∙ append_assoc spelled.1.frame spelled.0 more;
-      is_frame = spelled.1.is_frame;
-    },
-    spells_more spelled.0 events rest more spelled.2,
-  )
+  spelled.0 ++ more,
+  record {
+    frame = spelled.1.frame;
+    joined = ap (λ l. l ++ more) spelled.1.joined ∙ append_assoc spelled.1.frame spelled.0 more;
+    is_frame = spelled.1.is_frame;
+  },
+  spells_more spelled.0 events rest more spelled.2,
+)
 
 pub spells_then : (bytes : List ℕ) (events : List Event) (rest more : List ℕ) (later : List Event) (last : List ℕ)
     → SpellsEvents bytes events rest → SpellsEvents (rest ++ more) later last → SpellsEvents (bytes ++ more) (events ++ later) last
 spells_then bytes [] rest more later last spelled next = subst (λ (l : List ℕ). SpellsEvents (l ++ more) later last) (sym spelled) next
 spells_then bytes (e ∷ events) rest more later last spelled next = (
-    spelled.0 ++ more,
-    record {
-      frame = spelled.1.frame;
-      joined = ap (λ l. l ++ more) spelled.1.joined ∙ append_assoc spelled.1.frame spelled.0 more;
-      is_frame = spelled.1.is_frame;
-    },
-    spells_then spelled.0 events rest more later last spelled.2 next,
-  )
+  spelled.0 ++ more,
+  record {
+    frame = spelled.1.frame;
+    joined = ap (λ l. l ++ more) spelled.1.joined ∙ append_assoc spelled.1.frame spelled.0 more;
+    is_frame = spelled.1.is_frame;
+  },
+  spells_then spelled.0 events rest more later last spelled.2 next,
+)
 
 pub length-rest : (bytes : List ℕ) (events : List Event) (rest : List ℕ) → SpellsEvents bytes events rest → length rest ≤ length bytes
 length-rest bytes [] rest spelled = omega (arith, ap length spelled)
@@ -79,12 +79,12 @@ pub lists_then : (listing : Listing) (events later : List Event) (output more : 
     → Lists listing (events ++ later) (output ++ more)
 lists_then listing [] later output more lists next = subst (λ (l : List ℕ). Lists listing later (l ++ more)) (sym lists) next
 lists_then listing (e ∷ events) later output more lists next = (
-    lists.0,
-    lists.1 ++ more,
-    lists.2,
-    lists_then listing events later lists.1 more lists.3 next,
-    ap (λ l. l ++ more) lists.4 ∙ append_assoc lists.0 lists.1 more,
-  )
+  lists.0,
+  lists.1 ++ more,
+  lists.2,
+  lists_then listing events later lists.1 more lists.3 next,
+  ap (λ l. l ++ more) lists.4 ∙ append_assoc lists.0 lists.1 more,
+)
 
 pub lists_one : (listing : Listing) (event : Event) (output : List ℕ) → Adds listing event output → Lists listing (event ∷ []) output
 lists_one listing event output adds = (output, [], adds, refl, sym (append-nil output))
@@ -276,8 +276,7 @@ pub event_came : OneReading → (old fed now : ReaderState) (s t : Stand) (piece
     → t ≡ after_event s event → Adds s.listing event output → Appends a b output
     → (0 < count) × CameIn old s piece count now t a b
 event_came law old fed now s t piece count event a b output ready took held frame after stand adds added =
-    let r = was_released fed now after.0 held in
-    (
+    let r = was_released fed now after.0 held in (
       some_came law old fed piece event count ready took.took.kept frame,
       record {
         within = took.took.within;

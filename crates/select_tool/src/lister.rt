@@ -47,7 +47,11 @@ impl Lister {
     }
 
     /// Writes what the event adds.
-    pub(crate) fn answer<K: Sink>(&mut self, out: &mut K, event: EventView<'_>) -> Result<(), Failed>
+    pub(crate) fn answer<K: Sink>(
+        &mut self,
+        out: &mut K,
+        event: EventView<'_>,
+    ) -> Result<(), Failed>
         requires { HasShortTexts (event_shown event) }
         ensures bytes { AnswersEvent self.old.listing (event_shown event.entry) (K.written out.old) (K.written out.new) result }
         ensures after { self.new ≡ after_event self.old (event_shown event.entry) }

@@ -94,7 +94,11 @@ fn put_printed(line: &mut Vec<u8>, text: &[u8])
 fn printable(byte: u8) -> u8
     ensures { result ≡ printable byte }
 {
-    if byte >= 32 && byte <= 126 { byte } else { b'?' }
+    if byte >= 32 && byte <= 126 {
+        byte
+    } else {
+        b'?'
+    }
 }
 
 fn put(line: &mut Vec<u8>, bytes: &[u8])
