@@ -1,5 +1,7 @@
 pub mod LineLaws
 pub mod ListingLaws
+pub mod OneCounts
+pub mod OneListing
 pub mod EndingLaws
 pub mod Contents
 pub mod Cutting

@@ -103,3 +103,8 @@ ListingCause (BadReply place) bad_at input output nothing = bad_at place
 pub record WentOver (listing : Listing) (left before now : Option (List ℕ)) (taken_before taken_now : ℕ) : Type 0 where
   pub taken : TookTooMany taken_before taken_now
   pub listed : IfSome left (λ input. IsListed listing input long before now)
+
+-- two answers are one
+pub record IsOneAnswer (ending other_ending : Ending) (now other_now : List ℕ) : Type 0 where
+  pub same_ending : ending ≡ other_ending
+  pub same_bytes : now ≡ other_now

@@ -7,6 +7,7 @@ mod commands;
 mod content;
 mod input;
 mod job;
+mod laws;
 mod lister;
 mod listing;
 mod outcome;
@@ -20,6 +21,7 @@ mod trouble;
 mod words;
 
 pub use commands::run;
+pub use laws::replies_have_one_listing;
 
 #[cfg(test)]
 mod tests;

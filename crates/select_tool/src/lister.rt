@@ -57,7 +57,7 @@ impl Lister {
         ensures after { self.new ≡ after_event self.old (event_shown event.entry) }
         ensures faults { HasCause (K.faults out.old) (K.faults out.new) result }
     {
-        self.count(event);
+        self.remember(event);
         match self.listing {
             Listing::Lines => {
                 print(&mut self.line, event);
@@ -71,7 +71,7 @@ impl Lister {
     }
 
     // Keeps in mind whether the event ends a reply, and whether it is an Error event.
-    fn count(&mut self, event: EventView<'_>)
+    fn remember(&mut self, event: EventView<'_>)
         ensures { self.new ≡ after_event self.old (event_shown event.entry) }
     {
         self.ended = matches!(event, EventView::End | EventView::Error { .. });

@@ -61,7 +61,6 @@ fn list_all<I: Source, O: Sink>(
     out: &mut O,
 ) -> Result<bool, Trouble>
     requires buffer { 0 < length buffer.old }
-    requires short { length buffer.old ≤ 65536 }
     requires frames { frames.old ≡ fresh_reader }
     requires ended { lister.old.ended ≡ false }
     requires erred { lister.old.erred ≡ false }
