@@ -18,7 +18,7 @@ use Rattle.select_tool.specs.Endings.{longest_input, replied, bad, long, ends_af
 use Rattle.select_tool.specs.Statuses.{status_of, line_of}
 use Rattle.select_tool.specs.Replies.{WritesUnlessFaulty}
 use Rattle.select_tool.specs.Listings.{IsListed, IsListedInPart, IsRefused, ListingCause, WentOver}
-use Rattle.select_tool.specs.Listening.{Stand, after_events, IsReady, CameIn, Answers, AnswersBad, AnswersInPart, FailsAt, GoesOver, Finishes}
+use Rattle.select_tool.specs.Listening.{Stand, after_events, IsReady, CameIn, Answers, AnswersBad, FailsAt, GoesOver, Finishes}
 use Rattle.select_tool.proofs.ListingLaws.{Came, spells_more, length-rest, answers_none, answers_then, fails_then}
 
 pub fresh_ready : (frames : ReaderState) → frames ≡ fresh_reader → IsReady frames
@@ -260,7 +260,7 @@ gone_bad bytes more listing place a b within answers =
       written = answers.written;
     }
 
-cut_part : (bytes more : List ℕ) (listing : Listing) (a b : Option (List ℕ)) → AnswersInPart bytes listing a b → IsListedInPart listing (bytes ++ more) a b
+cut_part : (bytes more : List ℕ) (listing : Listing) (a b : Option (List ℕ)) → IsListedInPart listing bytes a b → IsListedInPart listing (bytes ++ more) a b
 cut_part bytes more listing a b answers = record {
   events = answers.events;
   rest = answers.rest ++ more;

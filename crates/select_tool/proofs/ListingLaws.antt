@@ -18,8 +18,8 @@ use Rattle.select_tool.specs.declared.listing.Listing.{Listing}
 use Rattle.select_tool.specs.declared.trouble.Trouble.{Trouble}
 use Rattle.select_tool.specs.declared.trouble.Trouble.TheVariants.{BadWords, NoSuchKey, InputFault, OutputFault, StoreFault, OutOfMemory, BadReply}
 use Rattle.select_tool.specs.Endings.{ends_reply, ends_after, is_error}
-use Rattle.select_tool.specs.Listings.{Adds, Lists}
-use Rattle.select_tool.specs.Listening.{Stand, after_event, after_events, IsReady, CameIn, Answers, AnswersBad, AnswersInPart, FailsAt}
+use Rattle.select_tool.specs.Listings.{Adds, Lists, IsListedInPart}
+use Rattle.select_tool.specs.Listening.{Stand, after_event, after_events, IsReady, CameIn, Answers, AnswersBad, FailsAt}
 
 -- ---- events that bytes spell
 
@@ -165,8 +165,8 @@ answers_then bytes rest more last s t u a b c first second = record {
   written = Appends-trans a b c first.output second.output first.written second.written;
 }
 
-pub part_then : (bytes rest more : List ℕ) (s t : Stand) (a b c : Option (List ℕ)) → Answers bytes rest s t a b → AnswersInPart (rest ++ more) t.listing b c
-    → AnswersInPart (bytes ++ more) s.listing a c
+pub part_then : (bytes rest more : List ℕ) (s t : Stand) (a b c : Option (List ℕ)) → Answers bytes rest s t a b → IsListedInPart t.listing (rest ++ more) b c
+    → IsListedInPart s.listing (bytes ++ more) a c
 part_then bytes rest more s t a b c first second = record {
   events = first.events ++ second.events;
   rest = second.rest;
@@ -234,7 +234,7 @@ fault_shown upto kept piece shown count listing code at place a is faulty placed
 -- the output failed while the event of a frame was answered
 pub event_cut : (kept piece whole : List ℕ) (count : ℕ) (listing : Listing) (event : Event) (a b : Option (List ℕ)) (output : List ℕ)
     → whole ≡ kept ++ take count piece → IsFrame whole event → Adds listing event output → AppendsFront a b output
-    → AnswersInPart (kept ++ piece) listing a b
+    → IsListedInPart listing (kept ++ piece) a b
 event_cut kept piece whole count listing event a b output is frame adds cut = record {
   events = event ∷ [];
   rest = drop count piece;

@@ -3,7 +3,7 @@ use Rattle.std.specs.Prelude.{◌≡◌, ℕ, ◌+◌, ◌<◌, ◌≤◌, ◌||
 use Rattle.std.specs.List.{list_any}
 use Rattle.std.specs.Io.KnownBytes.{Appends}
 use Rattle.select_ports.specs.Causes.{RoseBy}
-use Rattle.select_ports.specs.Streams.{AppendsFront, AddsAll}
+use Rattle.select_ports.specs.Streams.{AddsAll}
 use Rattle.event_frame.specs.Event.{Event}
 use Rattle.event_frame.specs.Reader.{ReaderState, IsSound}
 use Rattle.event_frame.specs.Stream.{SpellsEvents, HasFaultyFront}
@@ -13,7 +13,7 @@ use Rattle.select_tool.specs.declared.lister.Lister.TheInside.{Inside}
 use Rattle.select_tool.specs.declared.trouble.Trouble.{Trouble}
 use Rattle.select_tool.specs.declared.trouble.Trouble.TheVariants.{BadWords, NoSuchKey, InputFault, OutputFault, StoreFault, OutOfMemory, BadReply}
 use Rattle.select_tool.specs.Endings.{longest_input, ends_reply, ends_after, is_error}
-use Rattle.select_tool.specs.Listings.{Adds, Lists}
+use Rattle.select_tool.specs.Listings.{Adds, Lists, IsListedInPart}
 
 -- a listing so far: whether a reply ended with the last event, and whether there was an Error event
 pub record Stand : Type 0 where
@@ -75,21 +75,12 @@ pub record AnswersBad (upto : ℕ) (bytes : List ℕ) (listing : Listing) (place
   pub lists : Lists listing events output
   pub written : Appends before now output
 
--- a front of what the first frames of the bytes add was written
-pub record AnswersInPart (bytes : List ℕ) (listing : Listing) (before now : Option (List ℕ)) : Type 0 where
-  pub events : List Event
-  pub rest : List ℕ
-  pub spelled : SpellsEvents bytes events rest
-  pub output : List ℕ
-  pub lists : Lists listing events output
-  pub written : AppendsFront before now output
-
 -- why a piece of the input wasn't listed: a frame shows a fault, or the output failed; `upto` bytes of the input have come
 abbrev pub FailsAt : Trouble → ℕ → List ℕ → Listing → Option (List ℕ) → Option (List ℕ) → Type 0
 FailsAt BadWords upto bytes listing before now = ⊥
 FailsAt NoSuchKey upto bytes listing before now = ⊥
 FailsAt InputFault upto bytes listing before now = ⊥
-FailsAt OutputFault upto bytes listing before now = AnswersInPart bytes listing before now
+FailsAt OutputFault upto bytes listing before now = IsListedInPart listing bytes before now
 FailsAt StoreFault upto bytes listing before now = ⊥
 FailsAt OutOfMemory upto bytes listing before now = ⊥
 FailsAt (BadReply place) upto bytes listing before now = AnswersBad upto bytes listing place before now
@@ -111,13 +102,13 @@ abbrev pub Feeds : {A : Type 0} → ReaderState → Stand → List ℕ → Resul
 Feeds old s piece (Ok unit) new t before now = CameIn old s piece (length piece) new t before now
 Feeds old s piece (Err trouble) new t before now = FailsAt trouble (old.taken + length piece) (old.kept ++ piece) s.listing before now
 
--- the input may have more bytes than are read: so many were taken, and one more came
+-- the input goes on behind the bytes that are read: so many were taken, and then one more
 pub record GoesOver (taken : ℕ) (left : Option (List ℕ)) (taken_before taken_now : ℕ) : Type 0 where
   pub all : taken ≡ longest_input
   pub one_more : RoseBy 1 taken_before taken_now
   pub told : IfSome left (λ more. 0 < length more)
 
--- how an input of so many bytes ends, of which these are kept
+-- how an input of so many bytes ends, of which these are kept behind the last whole frame
 abbrev pub Finishes : List ℕ → Stand → ℕ → Result Bool Trouble → Type 0
 Finishes kept s taken (Ok erred) = (kept ≡ []) × (s.ended ≡ true) × (erred ≡ s.erred)
 Finishes kept s taken (Err trouble) = ((0 < length kept) ⊎ (s.ended ≡ false)) × (trouble ≡ BadReply taken)

@@ -99,7 +99,7 @@ ListingCause StoreFault bad_at input output nothing = ⊥
 ListingCause OutOfMemory bad_at input output nothing = nothing
 ListingCause (BadReply place) bad_at input output nothing = bad_at place
 
--- the input failed, or it is listed up to the bytes that are read, and went on behind them
+-- the bytes of the input that are read were listed, and it went on behind them
 pub record WentOver (listing : Listing) (left before now : Option (List ℕ)) (taken_before taken_now : ℕ) : Type 0 where
   pub taken : TookTooMany taken_before taken_now
   pub listed : IfSome left (λ input. IsListed listing input long before now)

@@ -1,8 +1,10 @@
 //! What no clause says: whole replies against frames made elsewhere, whatever the lengths of reads and writes, and with each
 //! call outside failing in turn.
+ghost use Rattle.std.specs.Prelude.{◌≤◌, length};
+
 use crate::run;
-use event_frame::crc32;
-use select_ports::{MemObject, MemSink, MemSource, MemStore};
+use event_frame::{Counts, FrameWriter, crc32};
+use select_ports::{Failed, MemObject, MemSink, MemSource, MemStore, Plain};
 use std::alloc::Global;
 use std::test::Fail;
 
@@ -286,6 +288,50 @@ fn a_failing_read_or_write_leaves_a_front_of_what_is_listed(rt: HostRuntime) -> 
                 assert!(rt; failed || call > 1);
             }
         }
+    }
+    Ok(())
+}
+
+/// Writes the reply of a query that scanned and returned so many bytes.
+fn write_reply(
+    writer: &mut FrameWriter,
+    sink: &mut MemSink,
+    payload: &[u8],
+    scanned: u128,
+) -> Result<(), Failed>
+    requires { length payload.now ≤ 65536 }
+{
+    let mut out = Plain { sink };
+    if !payload.is_empty() {
+        writer.records(&mut out, payload)?;
+    }
+    let counts = Counts {
+        scanned,
+        processed: scanned,
+        returned: payload.len() as u128,
+    };
+    writer.stats(&mut out, &counts)?;
+    writer.end(&mut out)
+}
+
+#[test]
+fn the_replies_of_the_frame_writer_are_listed(rt: HostRuntime) -> Result<(), Fail> {
+    let alloc = rt.alloc();
+    let mut replies = MemSink::new(Vec::new(alloc), Vec::new(alloc), Vec::new(alloc));
+    let mut writer = FrameWriter::make(alloc)?;
+    write_reply(&mut writer, &mut replies, b"", 0)?;
+    write_reply(&mut writer, &mut replies, b"", 0)?;
+    write_reply(&mut writer, &mut replies, b"Ann\n", 6)?;
+    write_reply(&mut writer, &mut replies, b"Bo\n", 5)?;
+    for (front, status, line) in [
+        (1_361, 0, b"".as_slice()),
+        (1_360, 8, b"bad reply at 1360\n".as_slice()),
+    ] {
+        let bytes = joined(alloc, replies.written(), front, b"")?;
+        let (code, out, err) = list(alloc, "records", bytes, unfailing(100))?;
+        assert_eq!(rt; code, status);
+        assert_eq!(rt; out.written(), b"Ann\nBo\n".as_slice());
+        assert_eq!(rt; err.written(), line);
     }
     Ok(())
 }
