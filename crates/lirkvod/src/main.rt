@@ -15,9 +15,12 @@ FOLDER holds the objects, and ADDRESS is - for a command that needs no socket.
 commands:
   select NAME   reads a request body (the XML of SelectObjectContent) from standard
                 input, and writes the reply about the object NAME to standard output
+  show          reads replies from standard input, and prints a line for each event
+  records       reads replies from standard input, and writes the output that their
+                Records events hold
 
 exit status: 0 done, 1 done with an error event, 2 bad words or no such object,
-3 input fault, 4 output fault, 5 store fault, 7 out of memory
+3 input fault, 4 output fault, 5 store fault, 7 out of memory, 8 bad reply
 ";
 
 const VERSION: &str = "lirkvod 0.1.0\n";

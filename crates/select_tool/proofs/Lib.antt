@@ -1,3 +1,8 @@
+pub mod LineLaws
+pub mod ListingLaws
+pub mod OneCounts
+pub mod OneListing
+pub mod EndingLaws
 pub mod Contents
 pub mod Cutting
 pub mod Filling

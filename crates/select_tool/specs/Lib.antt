@@ -4,6 +4,10 @@ pub mod Records
 pub mod Answer
 pub mod Prepared
 pub mod Words
+pub mod Lines
+pub mod Endings
+pub mod Listings
+pub mod Listening
 pub mod Statuses
 pub mod Input
 pub mod Begun

@@ -10,8 +10,8 @@ use Rattle.select_tool.specs.declared.prepare.Asked.TheVariants.{Refused, Asks}
 use Rattle.select_tool.specs.declared.outcome.Outcome.{Outcome}
 use Rattle.select_tool.specs.declared.outcome.Outcome.TheVariants.{Done, Faulted}
 use Rattle.select_tool.specs.declared.trouble.Trouble.{Trouble}
-use Rattle.select_tool.specs.declared.trouble.Trouble.TheVariants.{BadWords, NoSuchKey, InputFault, OutputFault, StoreFault, OutOfMemory}
-use Rattle.select_tool.specs.Words.{selected}
+use Rattle.select_tool.specs.declared.trouble.Trouble.TheVariants.{BadWords, NoSuchKey, InputFault, OutputFault, StoreFault, OutOfMemory, BadReply}
+use Rattle.select_tool.specs.Words.{Order, selects, lists, selected}
 use Rattle.select_tool.specs.Prepared.{Prepares}
 use Rattle.select_tool.specs.Records.{records}
 use Rattle.select_tool.specs.Answer.{processed}
@@ -82,15 +82,18 @@ CauseOf InputFault missing input output store nothing = input × nothing
 CauseOf OutputFault missing input output store nothing = output
 CauseOf StoreFault missing input output store nothing = store
 CauseOf OutOfMemory missing input output store nothing = nothing
+CauseOf (BadReply at) missing input output store nothing = ⊥
 
--- the exit status is one of the table's
-abbrev pub IsStatus : ℕ → Type 0
-IsStatus status = (status < 6) ⊎ (status ≡ 7)
+-- the exit status of the words is one of the table's
+abbrev pub IsStatusOf : Option Order → ℕ → Type 0
+IsStatusOf None status = status ≡ 2
+IsStatusOf (Some (selects name)) status = (status < 6) ⊎ (status ≡ 7)
+IsStatusOf (Some (lists listing)) status = (status < 2) ⊎ (status ≡ 3) ⊎ (status ≡ 4) ⊎ (status ≡ 7) ⊎ (status ≡ 8)
 
--- the line on the error output at a status: none where the command was done
-abbrev pub line_of_status : Option (List ℕ) → ℕ → List ℕ
+-- the line on the error output at any status but 8: none where the command was done
+abbrev pub line_of_status : Option Order → ℕ → List ℕ
 line_of_status None status = line_of BadWords
-line_of_status (Some name) status =
+line_of_status (Some order) status =
     if status == 2 then line_of NoSuchKey
     else if status == 3 then line_of InputFault
     else if status == 4 then line_of OutputFault
@@ -115,3 +118,10 @@ IsLacking (Some objects) name = objects name ≡ None
 -- no object of the name was found, or the store failed first
 abbrev pub IsMissingOrFault : Trouble → Type 0
 IsMissingOrFault trouble = (trouble ≡ NoSuchKey) ⊎ (trouble ≡ StoreFault)
+
+-- nothing was asked of the store
+pub record StaysAsItWas (current_before current_now : Opened) (taken_before taken_now absent_before absent_now faults_before faults_now : ℕ) : Type 0 where
+  pub current : current_now ≡ current_before
+  pub taken : taken_now ≡ taken_before
+  pub absent : absent_now ≡ absent_before
+  pub faults : faults_now ≡ faults_before

@@ -1,34 +1,42 @@
 //! The top call: a command from its words to its exit status.
-ghost use Rattle.std.specs.Prelude.{◌≡◌, ◌⊎◌, ◌+◌, ◌-◌, ◌<◌, ◌≤◌, IfSome, IfNone};
+ghost use Rattle.std.specs.Prelude.{◌≡◌, ◌≢◌, ◌⊎◌, ◌+◌, ◌-◌, ◌<◌, ◌≤◌, IfSome, IfNone};
 ghost use Rattle.std.specs.Io.KnownBytes.{Keeps};
 ghost use Rattle.select_ports.specs.Causes.{Rose};
-ghost use Rattle.select_tool.specs.Words.{selected};
+ghost use Rattle.select_tool.specs.Words.{selects, lists, ordered, selected, listed};
 ghost use Rattle.select_tool.specs.Records.{records};
 ghost use Rattle.select_tool.specs.Answer.{processed};
 ghost use Rattle.select_tool.specs.Jobs.{WroteEarly};
-ghost use Rattle.select_tool.specs.Replies.{IfAsked, IsReplied, IsCutShort, IsHeld, IsLacking, Misses, IsStatus, line_of_status, WritesUnlessFaulty, longest_record};
+ghost use Rattle.select_tool.specs.Replies.{IfTold, IfAsked, IsReplied, IsCutShort, IsHeld, IsLacking, Misses, IsStatusOf, StaysAsItWas, line_of_status, WritesUnlessFaulty, longest_record};
+ghost use Rattle.select_tool.specs.Statuses.{status_of, line_of};
+ghost use Rattle.select_tool.specs.Listings.{IfListed, IsAnswered, IsListedInPart, IsRefused, FailsInput, IsUnread};
 
-use crate::outcome::Outcome;
+use crate::listing::Listing;
+use crate::replies::list;
 use crate::select::select;
 use crate::trouble::Trouble;
-use crate::words::selected_name;
+use crate::words::{Command, command_of};
 use select_ports::{Sink, Source, Store, write_all};
 use std::alloc::Global;
 
 /// Runs the command that the words say, and returns its exit status.
 ///
-/// `select NAME` opens the object NAME, reads a request body from the input, and writes one reply to `out`:
+/// `select NAME` opens the object NAME, reads a request body from the input, and writes one reply to `out`. `show` reads replies
+/// from the input, and writes a line for each event: `Records N` with the number of bytes, `Cont`, `Progress S P R`, `Stats S P R`,
+/// `End` and `Error CODE MESSAGE`. The three numbers are `?` where the payload has no counts of the one form, and so is each byte of
+/// a code or a message that isn't a visible character of ASCII or a space. `records` writes the payloads of the Records events,
+/// joined. A reply ends with an End or Error event, and the input has one reply or more.
 ///
 /// | status | when | line on `err` |
 /// |---|---|---|
 /// | 0 | done | |
-/// | 1 | done, with an Error event written | |
+/// | 1 | done, with an Error event written or read | |
 /// | 2 | the words are no command | `bad words` |
-/// | 2 | no object has the name | `NoSuchKey` |
-/// | 3 | the input failed | `input fault` |
+/// | 2 | `select`: no object has the name | `NoSuchKey` |
+/// | 3 | the input failed, or gave more than 2^40 bytes to `show` or `records` | `input fault` |
 /// | 4 | the output failed | `output fault` |
 /// | 5 | the store failed | `store fault` |
-/// | 7 | memory was refused, before anything was written | `out of memory` |
+/// | 7 | memory was refused, before anything was written, and for `show` and `records` before anything was read | `out of memory` |
+/// | 8 | `show`, `records`: a frame is bad at the place P of the input, or the input ends at P inside a reply or before the first one | `bad reply at P` |
 ///
 /// A failure of `err` is passed over.
 pub fn run<S: Store, I: Source, O: Sink, E: Sink>(
@@ -39,7 +47,8 @@ pub fn run<S: Store, I: Source, O: Sink, E: Sink>(
     out: &mut O,
     err: &mut E,
 ) -> u8
-    // At status 0 and 1 the bytes written are the frames of the reply to the body about the object. 1 tells that it has an Error event.
+    // `select`. At status 0 and 1 the bytes written are the frames of the reply to the body about the object. 1 tells that it has an
+    // Error event.
     ensures reply { result < 2 → IfAsked words.now (S.held store.old) (I.left input.old)
         (λ object body. IsReplied object body result (O.written out.old) (O.written out.new)) }
     // At any other status nothing was written, or a front of that reply.
@@ -49,37 +58,135 @@ pub fn run<S: Store, I: Source, O: Sink, E: Sink>(
     ensures early { result ≡ 5 → IfAsked words.now (S.held store.old) (I.left input.old)
         (λ object body. WroteEarly (λ frame. frame) longest_record (S.taken store.new - S.taken store.old)
         (processed (records longest_record object)) (O.written out.old) (O.written out.new)) }
-    ensures only { IsStatus result }
-    ensures bad_words { IfNone (selected words.now) (result ≡ 2) }
+    // `show` and `records`. At status 0 and 1 the whole input is replies, and what their events add was written. 1 tells that one
+    // of them has an Error event.
+    ensures listed { result < 2 → IfListed words.now (I.left input.old)
+        (λ listing bytes. IsAnswered listing bytes result (O.written out.old) (O.written out.new)) }
+    // At any other status a front of what the input's first frames add was written.
+    ensures listed_front { 1 < result → IfListed words.now (I.left input.old)
+        (λ listing bytes. IsListedInPart listing bytes (O.written out.old) (O.written out.new)) }
+    ensures only { IsStatusOf (ordered words.now) result }
+    ensures bad_words { IfNone (ordered words.now) (result ≡ 2) }
     ensures two { result ≡ 2 → Keeps (O.written out.old) (O.written out.new) × IfSome (selected words.now)
         (λ name. Misses (S.held store.old) name (S.current store.new) (S.absent store.old) (S.absent store.new)) }
     ensures missing { IfSome (selected words.now) (λ name. IsLacking (S.held store.old) name → (result ≡ 2) ⊎ (result ≡ 5)) }
-    ensures three { result ≡ 3 → Rose (I.faults input.old) (I.faults input.new) }
+    ensures three { result ≡ 3 → FailsInput (listed words.now) (I.faults input.old) (I.faults input.new)
+        (I.taken input.old) (I.taken input.new) }
     ensures four { result ≡ 4 → Rose (O.faults out.old) (O.faults out.new) }
     ensures five { result ≡ 5 → Rose (S.faults store.old) (S.faults store.new) }
     ensures seven { result ≡ 7 → Keeps (O.written out.old) (O.written out.new) }
+    ensures unread { result ≡ 7 → IfSome (listed words.now)
+        (λ listing. IsUnread (I.taken input.old) (I.taken input.new) (I.left input.old) (I.left input.new)) }
+    // The line on `err` tells the place where the input goes bad or ends early.
+    ensures eight { result ≡ 8 → IfSome (listed words.now) (λ listing. IsRefused listing (I.left input.old)
+        (O.written out.old) (O.written out.new) (E.faults err.old) (E.faults err.new) (E.written err.old) (E.written err.new)) }
     // Where the object is held and nothing outside failed, the command is done, or memory was refused.
     ensures complete { IfSome (selected words.now) (λ name. IsHeld (S.held store.old) name
         → ¬ (Rose (S.faults store.old) (S.faults store.new))
         → ¬ (Rose (I.faults input.old) (I.faults input.new))
         → ¬ (Rose (O.faults out.old) (O.faults out.new))
         → (result < 2) ⊎ (result ≡ 7)) }
-    ensures line { WritesUnlessFaulty (E.faults err.old) (E.faults err.new) (E.written err.old) (E.written err.new)
-        (line_of_status (selected words.now) result) }
+    // Where nothing outside failed, what all whole frames of the input add was written and the status tells how the input ends,
+    // or memory was refused.
+    ensures listed_complete { IfSome (listed words.now) (λ listing. ¬ (Rose (I.faults input.old) (I.faults input.new))
+        → ¬ (Rose (O.faults out.old) (O.faults out.new))
+        → (result ≡ 7) ⊎ IfSome (I.left input.old)
+        (λ bytes. IsAnswered listing bytes result (O.written out.old) (O.written out.new))) }
+    ensures line { result ≢ 8 → WritesUnlessFaulty (E.faults err.old) (E.faults err.new) (E.written err.old) (E.written err.new)
+        (line_of_status (ordered words.now) result) }
     // No byte of the object is read twice.
     ensures taken { IfSome (selected words.now) (λ name. IfSome (S.current store.new)
         (λ object. S.taken store.new ≤ S.taken store.old + object.0)) }
     ensures held { S.held store.new ≡ S.held store.old }
+    // `select` alone uses the store.
+    ensures unused { IfNone (selected words.now) (StaysAsItWas (S.current store.old) (S.current store.new)
+        (S.taken store.old) (S.taken store.new) (S.absent store.old) (S.absent store.new) (S.faults store.old) (S.faults store.new)) }
 {
-    let ended = match selected_name(words) {
-        Some(name) => select(alloc, name, store, input, out),
-        None => Err(Trouble::BadWords),
-    };
-    match ended {
-        Ok(outcome) => outcome.status(),
-        Err(trouble) => {
-            let _ = write_all(err, trouble.line());
-            trouble.status()
-        }
+    match command_of(words) {
+        Some(Command::Select(name)) => run_select(alloc, name, store, input, out, err),
+        Some(Command::List(listing)) => run_list(alloc, listing, input, out, err),
+        None => report(err, Trouble::BadWords),
     }
+}
+
+// The command `select NAME`.
+fn run_select<S: Store, I: Source, O: Sink, E: Sink>(
+    alloc: Global,
+    name: &str,
+    store: &mut S,
+    input: &mut I,
+    out: &mut O,
+    err: &mut E,
+) -> u8
+    ensures reply { result < 2 → IfTold (S.held store.old) (I.left input.old) name.now
+        (λ object body. IsReplied object body result (O.written out.old) (O.written out.new)) }
+    ensures front { 1 < result → IfTold (S.held store.old) (I.left input.old) name.now
+        (λ object body. IsCutShort object body (O.written out.old) (O.written out.new)) }
+    ensures early { result ≡ 5 → IfTold (S.held store.old) (I.left input.old) name.now
+        (λ object body. WroteEarly (λ frame. frame) longest_record (S.taken store.new - S.taken store.old)
+        (processed (records longest_record object)) (O.written out.old) (O.written out.new)) }
+    ensures only { (result < 6) ⊎ (result ≡ 7) }
+    ensures two { result ≡ 2 → Keeps (O.written out.old) (O.written out.new)
+        × Misses (S.held store.old) name.now (S.current store.new) (S.absent store.old) (S.absent store.new) }
+    ensures missing { IsLacking (S.held store.old) name.now → (result ≡ 2) ⊎ (result ≡ 5) }
+    ensures three { result ≡ 3 → Rose (I.faults input.old) (I.faults input.new) }
+    ensures four { result ≡ 4 → Rose (O.faults out.old) (O.faults out.new) }
+    ensures five { result ≡ 5 → Rose (S.faults store.old) (S.faults store.new) }
+    ensures seven { result ≡ 7 → Keeps (O.written out.old) (O.written out.new) }
+    ensures complete { IsHeld (S.held store.old) name.now
+        → ¬ (Rose (S.faults store.old) (S.faults store.new))
+        → ¬ (Rose (I.faults input.old) (I.faults input.new))
+        → ¬ (Rose (O.faults out.old) (O.faults out.new))
+        → (result < 2) ⊎ (result ≡ 7) }
+    ensures line { WritesUnlessFaulty (E.faults err.old) (E.faults err.new) (E.written err.old) (E.written err.new)
+        (line_of_status (Some (selects name.now)) result) }
+    ensures taken { IfSome (S.current store.new) (λ object. S.taken store.new ≤ S.taken store.old + object.0) }
+    ensures held { S.held store.new ≡ S.held store.old }
+{
+    match select(alloc, name, store, input, out) {
+        Ok(outcome) => outcome.status(),
+        Err(trouble) => report(err, trouble),
+    }
+}
+
+// The commands `show` and `records`.
+fn run_list<I: Source, O: Sink, E: Sink>(
+    alloc: Global,
+    listing: Listing,
+    input: &mut I,
+    out: &mut O,
+    err: &mut E,
+) -> u8
+    ensures listed { result < 2 → IfSome (I.left input.old)
+        (λ bytes. IsAnswered listing bytes result (O.written out.old) (O.written out.new)) }
+    ensures front { 1 < result → IfSome (I.left input.old)
+        (λ bytes. IsListedInPart listing bytes (O.written out.old) (O.written out.new)) }
+    ensures only { (result < 2) ⊎ (result ≡ 3) ⊎ (result ≡ 4) ⊎ (result ≡ 7) ⊎ (result ≡ 8) }
+    ensures three { result ≡ 3 → FailsInput (Some listing) (I.faults input.old) (I.faults input.new)
+        (I.taken input.old) (I.taken input.new) }
+    ensures four { result ≡ 4 → Rose (O.faults out.old) (O.faults out.new) }
+    ensures seven { result ≡ 7 → Keeps (O.written out.old) (O.written out.new)
+        × IsUnread (I.taken input.old) (I.taken input.new) (I.left input.old) (I.left input.new) }
+    ensures eight { result ≡ 8 → IsRefused listing (I.left input.old) (O.written out.old) (O.written out.new)
+        (E.faults err.old) (E.faults err.new) (E.written err.old) (E.written err.new) }
+    ensures complete { ¬ (Rose (I.faults input.old) (I.faults input.new))
+        → ¬ (Rose (O.faults out.old) (O.faults out.new))
+        → (result ≡ 7) ⊎ IfSome (I.left input.old)
+        (λ bytes. IsAnswered listing bytes result (O.written out.old) (O.written out.new)) }
+    ensures line { result ≢ 8 → WritesUnlessFaulty (E.faults err.old) (E.faults err.new) (E.written err.old) (E.written err.new)
+        (line_of_status (Some (lists listing)) result) }
+{
+    match list(alloc, listing, input, out) {
+        Ok(erred) => u8::from(erred),
+        Err(trouble) => report(err, trouble),
+    }
+}
+
+// Writes the line of a trouble, and tells its status.
+fn report<E: Sink>(err: &mut E, trouble: Trouble) -> u8
+    ensures status { result ≡ status_of trouble }
+    ensures line { WritesUnlessFaulty (E.faults err.old) (E.faults err.new) (E.written err.old) (E.written err.new) (line_of trouble) }
+{
+    let _ = write_all(err, trouble.line().as_bytes());
+    trouble.status()
 }

@@ -7,15 +7,21 @@ mod commands;
 mod content;
 mod input;
 mod job;
+mod laws;
+mod lister;
+mod listing;
 mod outcome;
 mod prepare;
+mod replies;
 mod reply;
 mod room;
 mod select;
+mod show;
 mod trouble;
 mod words;
 
 pub use commands::run;
+pub use laws::replies_have_one_listing;
 
 #[cfg(test)]
 mod tests;

@@ -2,6 +2,9 @@
 ghost use Rattle.std.specs.Prelude.{◌≡◌};
 ghost use Rattle.select_tool.specs.Statuses.{status_of, line_of};
 
+use arrayvec::ArrayString;
+use itoa::Buffer;
+
 /// Why a command wasn't done.
 #[derive(Clone, Copy, Debug, PartialEq, Eq)]
 pub(crate) enum Trouble {
@@ -11,6 +14,8 @@ pub(crate) enum Trouble {
     OutputFault,
     StoreFault,
     OutOfMemory,
+    /// The bytes on the input aren't replies, which shows at this place: the place of a bad frame, or the input's end.
+    BadReply { at: u64 },
 }
 
 impl Trouble {
@@ -24,20 +29,28 @@ impl Trouble {
             Trouble::OutputFault => 4,
             Trouble::StoreFault => 5,
             Trouble::OutOfMemory => 7,
+            Trouble::BadReply { .. } => 8,
         }
     }
 
     /// The line on the error output, with its LF.
-    pub(crate) fn line(self) -> &'static [u8]
-        ensures { result.now ≡ line_of self }
+    pub(crate) fn line(self) -> ArrayString<64>
+        ensures { result.bytes ≡ line_of self }
     {
+        let mut line = ArrayString::new();
         match self {
-            Trouble::BadWords => b"bad words\n",
-            Trouble::NoSuchKey => b"NoSuchKey\n",
-            Trouble::InputFault => b"input fault\n",
-            Trouble::OutputFault => b"output fault\n",
-            Trouble::StoreFault => b"store fault\n",
-            Trouble::OutOfMemory => b"out of memory\n",
+            Trouble::BadWords => line.push_str("bad words"),
+            Trouble::NoSuchKey => line.push_str("NoSuchKey"),
+            Trouble::InputFault => line.push_str("input fault"),
+            Trouble::OutputFault => line.push_str("output fault"),
+            Trouble::StoreFault => line.push_str("store fault"),
+            Trouble::OutOfMemory => line.push_str("out of memory"),
+            Trouble::BadReply { at } => {
+                line.push_str("bad reply at ");
+                line.push_str(Buffer::new().format(at));
+            }
         }
+        line.push_str("\n");
+        line
     }
 }

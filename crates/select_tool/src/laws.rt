@@ -1,0 +1,16 @@
+//! The law of listings.
+ghost use Rattle.std.specs.Prelude.{List, ℕ, Some};
+ghost use Rattle.select_tool.specs.declared.listing.Listing.{Listing};
+ghost use Rattle.select_tool.specs.Endings.{Ending};
+ghost use Rattle.select_tool.specs.Listings.{IsListed, IsOneAnswer};
+
+use event_frame::stream_has_one_reading;
+
+/// An input of replies ends in one way, and one list of bytes is listed of it.
+pub fn replies_have_one_listing()
+    ensures { (listing : Listing) (input before now other_now : List ℕ) (ending other_ending : Ending)
+        → IsListed listing input ending (Some before) (Some now) → IsListed listing input other_ending (Some before) (Some other_now)
+        → IsOneAnswer ending other_ending now other_now }
+{
+    stream_has_one_reading();
+}
