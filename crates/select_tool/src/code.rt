@@ -8,8 +8,20 @@ use itoa::Buffer;
 /// Why a request is refused or a record is faulty. The reply names it by the variant's name.
 #[derive(Clone, Copy, Debug, PartialEq, Eq)]
 pub(crate) enum Code {
-    /// The body of the request is empty or too long.
+    /// The body is none by its grammar, or is too long.
     MalformedXML,
+    /// The body lacks an element.
+    MissingRequiredParameter,
+    /// The expression's type isn't SQL.
+    InvalidExpressionType,
+    /// A value of the body is none of its element, or stands in another's way.
+    InvalidRequestParameter,
+    /// The object is compressed.
+    InvalidCompressionFormat,
+    /// The scan range of the body is none.
+    InvalidScanRange,
+    /// A scan range over CSV whose quoted fields may hold record delimiters.
+    UnsupportedScanRangeInput,
     /// The request, its expression or a quote in a record is of a kind that isn't built yet.
     NotBuilt,
     /// A record is longer than the record limit.
@@ -24,10 +36,16 @@ impl Code {
     /// The code as the reply writes it.
     pub(crate) fn text(&self) -> &'static str
         ensures text { result.now ≡ code_text self.now }
-        ensures short { length result.now ≤ 19 }
+        ensures short { length result.now ≤ 25 }
     {
         match self {
             Code::MalformedXML => "MalformedXML",
+            Code::MissingRequiredParameter => "MissingRequiredParameter",
+            Code::InvalidExpressionType => "InvalidExpressionType",
+            Code::InvalidRequestParameter => "InvalidRequestParameter",
+            Code::InvalidCompressionFormat => "InvalidCompressionFormat",
+            Code::InvalidScanRange => "InvalidScanRange",
+            Code::UnsupportedScanRangeInput => "UnsupportedScanRangeInput",
             Code::NotBuilt => "NotBuilt",
             Code::OverMaxRecordSize => "OverMaxRecordSize",
             Code::InvalidTextEncoding => "InvalidTextEncoding",

@@ -3,7 +3,9 @@ ghost use Rattle.std.specs.Prelude.{◌≡◌, IfOk, MatchBool};
 ghost use Rattle.select_tool.specs.Prepared.{Prepares, IsAskedOf, IsBuilt, code_of};
 
 use crate::code::Code;
-use select_request::{ReadError, RequestFaultCode, SelectRequest};
+use select_request::{
+    CsvInput, CsvOutput, Input, Output, ReadError, RequestFaultCode, SelectRequest,
+};
 use std::alloc::{AllocError, Global};
 
 /// What a body asks.
@@ -41,11 +43,15 @@ fn unless_unbuilt(request: SelectRequest) -> Asked
     }
 }
 
-// The one expression that is built so far.
+// Whether the request is built so far.
 fn is_built(request: &SelectRequest) -> bool
     ensures { MatchBool result (IsBuilt request.now) (¬ (IsBuilt request.now)) }
 {
     request.expression.text() == "SELECT * FROM S3Object"
+        && !request.progress
+        && request.input == Input::Csv(CsvInput::DEFAULT)
+        && request.output == Output::Csv(CsvOutput::DEFAULT)
+        && request.range == None
 }
 
 fn code_of(code: RequestFaultCode) -> Code
@@ -53,6 +59,11 @@ fn code_of(code: RequestFaultCode) -> Code
 {
     match code {
         RequestFaultCode::MalformedXML => Code::MalformedXML,
-        RequestFaultCode::NotBuilt => Code::NotBuilt,
+        RequestFaultCode::MissingRequiredParameter => Code::MissingRequiredParameter,
+        RequestFaultCode::InvalidExpressionType => Code::InvalidExpressionType,
+        RequestFaultCode::InvalidRequestParameter => Code::InvalidRequestParameter,
+        RequestFaultCode::InvalidCompressionFormat => Code::InvalidCompressionFormat,
+        RequestFaultCode::InvalidScanRange => Code::InvalidScanRange,
+        RequestFaultCode::UnsupportedScanRangeInput => Code::UnsupportedScanRangeInput,
     }
 }
