@@ -1,30 +1,33 @@
 -- What a body asks is told by its bytes up to the limit and one more.
 use Rattle.std.proofs.Common.{◌≡◌, ℕ, ◌<◌, ◌≤◌, ◌⊎◌, true, false, List, ◌++◌, length, Option, None, Some, IfSome, sym, ap, ◌∙◌, subst, arith, inl, inr, append-nil, length-append, leb}
 use Rattle.std.proofs.lemmas.Bool.Decides.{leb_tells}
-use Rattle.select_request.specs.Body.{Refuses, longest_body}
-use Rattle.select_request.specs.declared.fault.RequestFaultCode.{RequestFaultCode}
-use Rattle.select_request.specs.declared.fault.RequestFaultCode.TheVariants.{MalformedXML, NotBuilt}
+use Rattle.select_request.specs.Reading.{HasFault, longest_body}
+use Rattle.select_request.specs.declared.fault.RequestFault.{RequestFault}
 use Rattle.select_tool.specs.declared.prepare.Asked.{Asked}
 use Rattle.select_tool.specs.declared.prepare.Asked.TheVariants.{Refused, Asks}
 use Rattle.select_tool.specs.Prepared.{Prepares}
 use Rattle.select_tool.specs.Input.{IsReadOf, IsReadFrom}
 
 -- a body that is too long is refused whatever follows
-refuses_longer : (whole body : List ℕ) (code : RequestFaultCode) (at : ℕ) → longest_body < length body → length body ≤ length whole
-    → Refuses body code at → Refuses whole code at
-refuses_longer whole body MalformedXML at long within (inl empty) = absurd (omega (arith, empty.0))
-refuses_longer whole body MalformedXML at long within (inr over) = inr (omega (arith, over.0), over.1)
-refuses_longer whole body NotBuilt at long within unbuilt = absurd (omega (arith, unbuilt.1.limited))
+fault_of_longer : (whole body : List ℕ) (fault : RequestFault) → longest_body < length body → length body ≤ length whole
+    → HasFault body fault → HasFault whole fault
+fault_of_longer whole body fault long within (inl over) = inl (record {
+  long = omega (arith, over.long);
+  code = over.code;
+  place = over.place;
+})
+fault_of_longer whole body fault long within (inr (inl none)) = absurd (omega (arith, none.short))
+fault_of_longer whole body fault long within (inr (inr fails)) = absurd (omega (arith, fails.short))
 
 prepares_longer : (whole body : List ℕ) (asked : Asked) → longest_body < length body → length body ≤ length whole → Prepares body asked → Prepares whole asked
 prepares_longer whole body (Refused code at) long within (inl refused) = inl (record {
   fault = refused.fault;
-  read = refuses_longer whole body refused.fault.code refused.fault.at long within refused.read;
+  read = fault_of_longer whole body refused.fault long within refused.read;
   named = refused.named;
   placed = refused.placed;
 })
-prepares_longer whole body (Refused code at) long within (inr unbuilt) = absurd (omega (arith, unbuilt.read.0.limited))
-prepares_longer whole body (Asks request) long within asks = absurd (omega (arith, asks.0.0.limited))
+prepares_longer whole body (Refused code at) long within (inr unbuilt) = absurd (omega (arith, unbuilt.read.short))
+prepares_longer whole body (Asks request) long within asks = absurd (omega (arith, asks.0.short))
 
 prepares_read : (whole body : List ℕ) (asked : Asked) → IsReadOf whole body → Prepares body asked → Prepares whole asked
 prepares_read whole body asked read prepares = by_length (leb_tells (length body) longest_body)

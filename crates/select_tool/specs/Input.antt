@@ -1,6 +1,6 @@
 -- What is read of an input.
 use Rattle.std.specs.Prelude.{◌≡◌, ℕ, ◌≤◌, List, [], ◌++◌, length, Option, IfSome}
-use Rattle.select_request.specs.Body.{longest_body}
+use Rattle.select_request.specs.Reading.{longest_body}
 
 -- all that an input holds, as far as a body may go and one byte further
 pub record IsReadOf (whole body : List ℕ) : Type 0 where

@@ -1,10 +1,10 @@
 //! What a body asks: a request that is built, or the refusal of the body.
-ghost use Rattle.std.specs.Prelude.{◌≡◌, IfOk, MatchBool};
-ghost use Rattle.select_tool.specs.Prepared.{Prepares, IsAskedOf, IsBuilt, code_of};
+ghost use Rattle.std.specs.Prelude.{◌≡◌, IfOk};
+ghost use Rattle.select_tool.specs.Prepared.{Prepares, IsAskedOf, is_line_feed, is_without, is_plain_input, is_plain_output, is_built, code_of};
 
 use crate::code::Code;
 use select_request::{
-    CsvInput, CsvOutput, Input, Output, ReadError, RequestFaultCode, SelectRequest,
+    Delimiter, Header, Input, Output, ReadError, RequestFaultCode, SelectRequest,
 };
 use std::alloc::{AllocError, Global};
 
@@ -44,14 +44,67 @@ fn unless_unbuilt(request: SelectRequest) -> Asked
 }
 
 // Whether the request is built so far.
+#[tactic(auto, unfolding(crate::specs::Prepared::is_built))]
 fn is_built(request: &SelectRequest) -> bool
-    ensures { MatchBool result (IsBuilt request.now) (¬ (IsBuilt request.now)) }
+    ensures { result ≡ is_built request.now }
 {
     request.expression.text() == "SELECT * FROM S3Object"
         && !request.progress
-        && request.input == Input::Csv(CsvInput::DEFAULT)
-        && request.output == Output::Csv(CsvOutput::DEFAULT)
-        && request.range == None
+        && is_plain_input(request.input)
+        && is_plain_output(request.output)
+        && request.range.is_none()
+}
+
+// Whether the object is CSV with every setting at its default.
+fn is_plain_input(input: Input) -> bool
+    ensures { result ≡ is_plain_input input }
+{
+    match input {
+        Input::Csv(csv) => {
+            !csv.quoted_delimiters
+                && csv.comment == b'#'
+                && csv.field == b','
+                && is_without(csv.header)
+                && csv.quote == b'"'
+                && csv.escape == b'"'
+                && is_line_feed(csv.delimiter)
+        }
+        Input::JsonLines | Input::Parquet => false,
+    }
+}
+
+// Whether the reply is CSV with every setting at its default.
+fn is_plain_output(output: Output) -> bool
+    ensures { result ≡ is_plain_output output }
+{
+    match output {
+        Output::Csv(csv) => {
+            csv.field == b','
+                && csv.quote == b'"'
+                && csv.escape == b'"'
+                && !csv.always
+                && is_line_feed(csv.delimiter)
+        }
+        Output::Json(_) => false,
+    }
+}
+
+fn is_without(header: Header) -> bool
+    ensures { result ≡ is_without header }
+{
+    match header {
+        Header::Without => true,
+        Header::Ignore | Header::Use => false,
+    }
+}
+
+fn is_line_feed(delimiter: Delimiter) -> bool
+    ensures { result ≡ is_line_feed delimiter }
+{
+    match delimiter {
+        Delimiter::One(byte) => byte == b'\n',
+        Delimiter::Two(_, _) => false,
+    }
 }
 
 fn code_of(code: RequestFaultCode) -> Code

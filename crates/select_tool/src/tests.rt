@@ -13,6 +13,17 @@ const OBJECT: &[u8] = b"id,name\n1,Ann\n2,Bo\n";
 const BODY: &[u8] =
     b"<SelectObjectContentRequest><Expression>SELECT * FROM S3Object</Expression><ExpressionType>SQL</ExpressionType><InputSerialization><CSV/></InputSerialization><OutputSerialization><CSV/></OutputSerialization></SelectObjectContentRequest>";
 
+// The same request as a client lays it out.
+const SPACED_BODY: &[u8] =
+    b"<SelectObjectContentRequest>\n  <Expression>SELECT * FROM S3Object</Expression>\n  <ExpressionType>sql</ExpressionType>\n  <RequestProgress><Enabled>false</Enabled></RequestProgress>\n  <InputSerialization><CSV/></InputSerialization>\n  <OutputSerialization><CSV/></OutputSerialization></SelectObjectContentRequest>\n";
+
+const COMPRESSED_BODY: &[u8] =
+    b"<SelectObjectContentRequest><Expression>SELECT * FROM S3Object</Expression><ExpressionType>SQL</ExpressionType><InputSerialization><CSV/><CompressionType>GZIP</CompressionType></InputSerialization><OutputSerialization><CSV/></OutputSerialization></SelectObjectContentRequest>";
+
+// A request that isn't built: its fields are parted by semicolons.
+const UNBUILT_BODY: &[u8] =
+    b"<SelectObjectContentRequest><Expression>SELECT * FROM S3Object</Expression><ExpressionType>SQL</ExpressionType><InputSerialization><CSV><FieldDelimiter>;</FieldDelimiter></CSV></InputSerialization><OutputSerialization><CSV/></OutputSerialization></SelectObjectContentRequest>";
+
 /// The lengths of reads and writes, and the call of the store, of the input and of the output that fails, counted from 1.
 #[derive(Clone, Copy)]
 struct Outside {
@@ -104,7 +115,25 @@ fn replies_are_those_made_elsewhere(rt: HostRuntime) -> Result<(), Fail> {
         (
             "a.csv",
             OBJECT,
-            b"<a/>".as_slice(),
+            SPACED_BODY,
+            0,
+            411,
+            0x4c09_bb9f,
+            b"".as_slice(),
+        ),
+        (
+            "a.csv",
+            OBJECT,
+            COMPRESSED_BODY,
+            1,
+            131,
+            0xfe84_4915,
+            b"".as_slice(),
+        ),
+        (
+            "a.csv",
+            OBJECT,
+            UNBUILT_BODY,
             1,
             97,
             0xe1a3_1d3d,
