@@ -1,1 +1,4 @@
 pub mod Elements
+pub mod Values
+pub mod Request
+pub mod Checks

@@ -3,10 +3,12 @@
 //! The body is the XML of Amazon S3's `SelectObjectContentRequest`.
 #![tactic(auto)]
 
+mod checks;
 mod element;
 mod fault;
 mod found;
 mod request;
+mod values;
 
 pub use fault::{ReadError, RequestFault, RequestFaultCode};
 pub use request::{
