@@ -2,7 +2,7 @@
 -- met is the body's fault (Amazon S3 API Reference, SelectObjectContent, and its errors).
 use Rattle.std.specs.Prelude.{ℕ, ◌+◌, Bool, true, false, nat_lt, ◌&&◌, not, List, [], ◌∷◌, Option, None, Some, is_some, codes, if◌then◌else◌}
 use Rattle.select_request.specs.Values.{is_word, truth_of, header_of, quoting_of, character_of, one_of, one_or_two_of, range_of, input_is_apart, output_is_apart}
-use Rattle.select_request.specs.Request.{find, has, text_in, value_in, csv_input_from, csv_output_from, range_from}
+use Rattle.select_request.specs.Request.{has, text_in, place_in, value_in, csv_input_from, csv_output_from, range_from}
 use Rattle.select_request.specs.declared.checks.Check.{Check}
 use Rattle.select_request.specs.declared.checks.Check.TheVariants.{Holds, Fits, HasFormat, HasOneFormat, InputIsApart, OutputIsApart, IsRange, AllowsRange}
 use Rattle.select_request.specs.declared.element.Element.{Element}
@@ -105,14 +105,6 @@ element_at InputIsApart = CsvInput
 element_at OutputIsApart = CsvOutput
 element_at IsRange = ScanRange
 element_at AllowsRange = ScanRange
-
-abbrev pub place_at : Option Found → ℕ
-place_at None = 0
-place_at (Some f) = f.at
-
--- the place of the `<` of the element's start tag
-abbrev pub place_in : Element → List Found → ℕ
-place_in e found = place_at (find e found)
 
 abbrev pub fault_at : List Found → Check → RequestFault
 fault_at found check = record { code = code_of check; at = place_in (element_at check) found }

@@ -35,6 +35,14 @@ text_at (Some f) = Some f.text
 abbrev pub text_in : Element → List Found → Option (List ℕ)
 text_in e found = text_at (find e found)
 
+abbrev pub place_at : Option Found → ℕ
+place_at None = 0
+place_at (Some f) = f.at
+
+-- the place of the `<` of the element's start tag
+abbrev pub place_in : Element → List Found → ℕ
+place_in e found = place_at (find e found)
+
 abbrev pub value_at : {A : Type 0} → (List ℕ → Option A) → A → Option (List ℕ) → A
 value_at value_of default None = default
 value_at value_of default (Some text) = unwrap_or (value_of text) default

@@ -1,4 +1,6 @@
 //! What reading the body's grammar finds.
+ghost use Rattle.std.specs.Prelude.{◌≡◌, option_map};
+ghost use Rattle.select_request.specs.Request.{find, has, text_in, place_in};
 
 use crate::element::Element;
 use crate::request::TextBuf;
@@ -10,4 +12,43 @@ pub(crate) struct Found {
     pub(crate) element: Element,
     pub(crate) at: usize,
     pub(crate) text: TextBuf,
+}
+
+/// The first of the elements found that is this one.
+pub(crate) fn find(found: &[Found], element: Element) -> Option<&Found>
+    ensures { option_map (λ f. f.now) result ≡ find element found.now }
+{
+    for one in found {
+        if one.element == element {
+            return Some(one);
+        }
+    }
+    None
+}
+
+/// Whether the element is there.
+pub(crate) fn has(found: &[Found], element: Element) -> bool
+    ensures { result ≡ has element found.now }
+{
+    find(found, element).is_some()
+}
+
+/// The element's text.
+pub(crate) fn text_in(found: &[Found], element: Element) -> Option<&str>
+    ensures { option_map (λ t. t.now) result ≡ text_in element found.now }
+{
+    match find(found, element) {
+        Some(one) => Some(one.text.text()),
+        None => None,
+    }
+}
+
+/// The place of the element's start tag, or 0 where it isn't there.
+pub(crate) fn place_in(found: &[Found], element: Element) -> u64
+    ensures { result ≡ place_in element found.now }
+{
+    match find(found, element) {
+        Some(one) => one.at as u64,
+        None => 0,
+    }
 }

@@ -8,6 +8,7 @@ mod element;
 mod fault;
 mod found;
 mod request;
+mod settings;
 mod values;
 
 pub use fault::{ReadError, RequestFault, RequestFaultCode};

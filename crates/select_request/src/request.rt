@@ -1,5 +1,6 @@
 //! A request, as its body spells it (Amazon S3 API Reference, `SelectObjectContent`).
 ghost use Rattle.std.specs.Prelude.{◌≡◌, IfOk};
+ghost use Rattle.select_request.specs.Values.{holds, input_is_apart, output_is_apart};
 
 use std::alloc::{AllocError, Global};
 use std::marker::Model;
@@ -85,6 +86,48 @@ pub enum ScanRange {
     From { start: u64 },
     /// The last `count` bytes.
     Last { count: u64 },
+}
+
+impl Delimiter {
+    /// Whether the byte is one of its bytes.
+    fn holds(self, byte: u8) -> bool
+        ensures { result ≡ holds self byte }
+    {
+        match self {
+            Delimiter::One(one) => one == byte,
+            Delimiter::Two(first, second) => first == byte || second == byte,
+        }
+    }
+}
+
+impl CsvInput {
+    /// Whether its characters aren't in each other's way.
+    pub(crate) fn is_apart(self) -> bool
+        ensures { result ≡ input_is_apart self }
+    {
+        self.field != self.quote
+            && self.field != self.comment
+            && self.quote != self.comment
+            && !self.delimiter.holds(self.field)
+            && !self.delimiter.holds(self.quote)
+            && !self.delimiter.holds(self.comment)
+            && self.escape != self.field
+            && self.escape != self.comment
+            && !self.delimiter.holds(self.escape)
+    }
+}
+
+impl CsvOutput {
+    /// Whether its characters aren't in each other's way.
+    pub(crate) fn is_apart(self) -> bool
+        ensures { result ≡ output_is_apart self }
+    {
+        self.field != self.quote
+            && !self.delimiter.holds(self.field)
+            && !self.delimiter.holds(self.quote)
+            && self.escape != self.field
+            && !self.delimiter.holds(self.escape)
+    }
 }
 
 /// A text that is owned, which contracts see as its bytes.

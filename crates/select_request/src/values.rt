@@ -1,6 +1,6 @@
 //! One value each: what the text of an element stands for.
-ghost use Rattle.std.specs.Prelude.{◌≡◌};
-ghost use Rattle.select_request.specs.Values.{is_word, is_character, is_digits, truth_of, header_of, quoting_of, character_of, one_of, one_or_two_of, whole_number_of, between, from_start, last_bytes, range_of};
+ghost use Rattle.std.specs.Prelude.{◌≡◌, ◌^◌, nat_lt, IsTrue, ◌↔◌, slice_index, option_map, if◌then◌else◌};
+ghost use Rattle.select_request.specs.Values.{is_word, is_character, truth_of, header_of, quoting_of, character_of, one_of, one_or_two_of, whole_number_of, between, from_start, last_bytes, range_of};
 
 use crate::request::{Delimiter, Header, ScanRange};
 
@@ -91,24 +91,31 @@ pub(crate) fn one_or_two(text: &str) -> Option<Delimiter>
     }
 }
 
-/// Whether the text is one digit or more.
-fn is_digits(text: &str) -> bool
-    ensures { result ≡ is_digits text.now }
+/// The number, where it is at most 2^63 - 1.
+fn within(number: u64) -> Option<u64>
+    ensures { result ≡ (if nat_lt number (2 ^ 63) then Some number else None) }
 {
-    !text.is_empty() && text.bytes().all(|byte| byte.is_ascii_digit())
+    if number < 1 << 63 { Some(number) } else { None }
+}
+
+/// Whether the text begins with a plus, which `parse` passes over.
+fn begins_with_plus(text: &str) -> bool
+    ensures { IsTrue result ↔ (slice_index text.now 0 ≡ 43) }
+{
+    let bytes = text.as_bytes();
+    !bytes.is_empty() && bytes[0] == b'+'
 }
 
 /// Digits of a value up to 2^63 - 1.
-#[tactic(auto, unfolding(crate::specs::Values::whole_number_of))]
 fn whole_number(text: &str) -> Option<u64>
     ensures { result ≡ whole_number_of text.now }
 {
-    if !is_digits(text) {
+    if begins_with_plus(text) {
         return None;
     }
     match text.parse::<u64>() {
-        Ok(number) if number < 1 << 63 => Some(number),
-        _ => None,
+        Ok(number) => within(number),
+        Err(_) => None,
     }
 }
 
