@@ -1,6 +1,6 @@
 //! The checks on the elements found in a body, in their order.
 ghost use Rattle.std.specs.Prelude.{◌≡◌, ◌≤◌};
-ghost use Rattle.select_request.specs.Checks.{checks, first_fault, fits, counted, formats_in, is_met, code_of, element_at, fault_at};
+ghost use Rattle.select_request.specs.Checks.{checks, first_fault, first_unmet, fits, counted, formats_in, is_met, code_of, element_at, fault_at};
 
 use crate::element::Element;
 use crate::fault::{RequestFault, RequestFaultCode};
@@ -174,15 +174,22 @@ impl Check {
     }
 }
 
-/// The fault of the first check that isn't met.
-#[tactic(auto, unfolding(crate::specs::Checks::first_fault, crate::specs::Checks::checks))]
-pub(crate) fn first_fault(found: &[Found]) -> Option<RequestFault>
-    ensures { result ≡ first_fault found.now }
+/// The fault of the first of the checks that isn't met.
+fn first_unmet(found: &[Found], checks: &[Check]) -> Option<RequestFault>
+    ensures { result ≡ first_unmet found.now checks.now }
 {
-    for check in CHECKS.iter() {
+    for check in checks {
         if !check.is_met(found) {
             return Some(check.fault(found));
         }
     }
     None
+}
+
+/// The fault of the elements found in a body, if they have one.
+#[tactic(auto, unfolding(crate::specs::Checks::first_fault, crate::specs::Checks::checks))]
+pub(crate) fn first_fault(found: &[Found]) -> Option<RequestFault>
+    ensures { result ≡ first_fault found.now }
+{
+    first_unmet(found, &CHECKS)
 }

@@ -52,3 +52,15 @@ pub(crate) fn place_in(found: &[Found], element: Element) -> u64
         None => 0,
     }
 }
+
+/// The element's text, taken out of the list.
+pub(crate) fn take_text(found: Vec<Found>, element: Element) -> Option<TextBuf>
+    ensures { result ≡ text_in element found.items }
+{
+    for one in found {
+        if one.element == element {
+            return Some(one.text);
+        }
+    }
+    None
+}

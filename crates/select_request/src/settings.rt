@@ -1,12 +1,16 @@
 //! The values of the elements found in a body, each with its default.
-ghost use Rattle.std.specs.Prelude.{◌≡◌, false};
+ghost use Rattle.std.specs.Prelude.{◌≡◌, false, IfOk, IfErr};
 ghost use Rattle.select_request.specs.Values.{truth_of, character_of, header_of, quoting_of, one_of, one_or_two_of, range_of};
-ghost use Rattle.select_request.specs.Request.{value_in, csv_input_from, csv_output_from, input_from, output_from, range_from};
+ghost use Rattle.select_request.specs.Request.{value_in, csv_input_from, csv_output_from, input_from, output_from, range_from, request_from};
+ghost use Rattle.select_request.specs.Checks.{first_fault};
 
+use crate::checks::first_fault;
 use crate::element::Element;
-use crate::found::{Found, has, text_in};
-use crate::request::{CsvInput, CsvOutput, Delimiter, Header, Input, Output, ScanRange};
+use crate::fault::RequestFault;
+use crate::found::{Found, has, take_text, text_in};
+use crate::request::{CsvInput, CsvOutput, Delimiter, Header, Input, Output, ScanRange, SelectRequest, TextBuf};
 use crate::values::{character, header, one, one_or_two, quoting, range, truth};
+use std::alloc::Global;
 
 /// A truth value, which is false by default.
 pub(crate) fn truth_in(found: &[Found], element: Element) -> bool
@@ -125,5 +129,38 @@ pub(crate) fn range_from(found: &[Found]) -> Option<ScanRange>
         range(text_in(found, Element::Start), text_in(found, Element::End))
     } else {
         None
+    }
+}
+
+/// The request that the elements found in a body spell.
+#[tactic(auto, unfolding(crate::specs::Request::request_from))]
+fn request_from(alloc: Global, found: Vec<Found>) -> SelectRequest
+    ensures { result ≡ request_from found.items }
+{
+    let progress = truth_in(&found, Element::Enabled);
+    let input = input_from(&found);
+    let output = output_from(&found);
+    let range = range_from(&found);
+    let expression = match take_text(found, Element::Expression) {
+        Some(text) => text,
+        None => TextBuf::empty(alloc),
+    };
+    SelectRequest {
+        expression,
+        progress,
+        input,
+        output,
+        range,
+    }
+}
+
+/// The request that the elements found in a body spell, or the fault of the first check that isn't met.
+pub(crate) fn request_of(alloc: Global, found: Vec<Found>) -> Result<SelectRequest, RequestFault>
+    ensures request { IfOk result (λ request. (first_fault found.items ≡ None) × (request ≡ request_from found.items)) }
+    ensures fault { IfErr result (λ fault. first_fault found.items ≡ Some fault) }
+{
+    match first_fault(&found) {
+        Some(fault) => Err(fault),
+        None => Ok(request_from(alloc, found)),
     }
 }
