@@ -2,3 +2,5 @@ pub mod Elements
 pub mod Values
 pub mod Request
 pub mod Checks
+pub mod Printed
+pub mod Printable

@@ -38,37 +38,44 @@ pub(crate) enum Element {
 }
 
 impl Element {
-    /// The name of its tags.
+    /// The name of its tags, as bytes.
     pub(crate) fn name(self) -> &'static [u8]
         ensures { result.now ≡ name_of self }
     {
+        self.name_text().as_bytes()
+    }
+
+    /// The name of its tags.
+    pub(crate) fn name_text(self) -> &'static str
+        ensures { result.now ≡ name_of self }
+    {
         match self {
-            Element::Request => b"SelectObjectContentRequest",
-            Element::Expression => b"Expression",
-            Element::ExpressionType => b"ExpressionType",
-            Element::RequestProgress => b"RequestProgress",
-            Element::Enabled => b"Enabled",
-            Element::InputSerialization => b"InputSerialization",
-            Element::CompressionType => b"CompressionType",
-            Element::CsvInput | Element::CsvOutput => b"CSV",
-            Element::AllowQuotedRecordDelimiter => b"AllowQuotedRecordDelimiter",
-            Element::Comments => b"Comments",
-            Element::InputFieldDelimiter | Element::OutputFieldDelimiter => b"FieldDelimiter",
-            Element::FileHeaderInfo => b"FileHeaderInfo",
-            Element::InputQuoteCharacter | Element::OutputQuoteCharacter => b"QuoteCharacter",
+            Element::Request => "SelectObjectContentRequest",
+            Element::Expression => "Expression",
+            Element::ExpressionType => "ExpressionType",
+            Element::RequestProgress => "RequestProgress",
+            Element::Enabled => "Enabled",
+            Element::InputSerialization => "InputSerialization",
+            Element::CompressionType => "CompressionType",
+            Element::CsvInput | Element::CsvOutput => "CSV",
+            Element::AllowQuotedRecordDelimiter => "AllowQuotedRecordDelimiter",
+            Element::Comments => "Comments",
+            Element::InputFieldDelimiter | Element::OutputFieldDelimiter => "FieldDelimiter",
+            Element::FileHeaderInfo => "FileHeaderInfo",
+            Element::InputQuoteCharacter | Element::OutputQuoteCharacter => "QuoteCharacter",
             Element::InputQuoteEscapeCharacter | Element::OutputQuoteEscapeCharacter =>
-                b"QuoteEscapeCharacter",
+                "QuoteEscapeCharacter",
             Element::InputRecordDelimiter
             | Element::CsvRecordDelimiter
-            | Element::JsonRecordDelimiter => b"RecordDelimiter",
-            Element::JsonInput | Element::JsonOutput => b"JSON",
-            Element::JsonType => b"Type",
-            Element::ParquetInput => b"Parquet",
-            Element::OutputSerialization => b"OutputSerialization",
-            Element::QuoteFields => b"QuoteFields",
-            Element::ScanRange => b"ScanRange",
-            Element::Start => b"Start",
-            Element::End => b"End",
+            | Element::JsonRecordDelimiter => "RecordDelimiter",
+            Element::JsonInput | Element::JsonOutput => "JSON",
+            Element::JsonType => "Type",
+            Element::ParquetInput => "Parquet",
+            Element::OutputSerialization => "OutputSerialization",
+            Element::QuoteFields => "QuoteFields",
+            Element::ScanRange => "ScanRange",
+            Element::Start => "Start",
+            Element::End => "End",
         }
     }
 

@@ -7,6 +7,7 @@ mod checks;
 mod element;
 mod fault;
 mod found;
+mod print;
 mod request;
 mod settings;
 mod values;
