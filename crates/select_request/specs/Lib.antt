@@ -1,1 +1,4 @@
 pub mod Elements
+pub mod Grammar
+pub mod Pieces
+pub mod TextValue
