@@ -72,7 +72,7 @@ is_namespace (b ∷ bytes) =
 -- the root's name with its namespace
 abbrev pub is_root_with_namespace : List ℕ → Bool
 is_root_with_namespace inside =
-    bytes_eq (take 26 inside) root_name && is_namespace (drop 26 (without_last_blanks inside))
+    bytes_eq (take 26 inside) root_name && is_namespace (without_last_blanks (drop 26 inside))
 
 -- the name of a start tag
 unfoldable pub named : List ℕ → List ℕ
