@@ -1,2 +1,5 @@
+mod Escaping
 mod Finding
+mod Parts
+mod Printables
 mod WholeNumber

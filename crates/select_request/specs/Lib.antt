@@ -4,3 +4,6 @@ pub mod Request
 pub mod Checks
 pub mod Printed
 pub mod Printable
+pub mod Pieces
+pub mod TextValue
+pub mod Grammar

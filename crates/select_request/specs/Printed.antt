@@ -114,15 +114,17 @@ range_parts (Some (Between start end)) = opens ScanRange ∷ leaf Start (decimal
 range_parts (Some (From start)) = opens ScanRange ∷ leaf Start (decimal start) ∷ closes ScanRange ∷ []
 range_parts (Some (Last count)) = opens ScanRange ∷ leaf End (decimal count) ∷ closes ScanRange ∷ []
 
+-- the progress and the two formats
+abbrev pub settings_parts : SelectRequest → List Part
+settings_parts request =
+    opens RequestProgress ∷ leaf Enabled (truth_text request.progress) ∷ closes RequestProgress
+    ∷ opens InputSerialization ∷ leaf CompressionType (codes "NONE") ∷ (input_parts request.input ++ (closes InputSerialization
+    ∷ opens OutputSerialization ∷ (output_parts request.output ++ closes OutputSerialization ∷ [])))
+
 unfoldable pub parts_of : SelectRequest → List Part
 parts_of request =
-    opens Request
-    ∷ leaf Expression request.expression
-    ∷ leaf ExpressionType (codes "SQL")
-    ∷ opens RequestProgress ∷ leaf Enabled (truth_text request.progress) ∷ closes RequestProgress
-    ∷ opens InputSerialization ∷ leaf CompressionType (codes "NONE") ∷ (input_parts request.input ++ (closes InputSerialization
-    ∷ opens OutputSerialization ∷ (output_parts request.output ++ (closes OutputSerialization
-    ∷ (range_parts request.range ++ closes Request ∷ [])))))
+    opens Request ∷ leaf Expression request.expression ∷ leaf ExpressionType (codes "SQL")
+    ∷ (settings_parts request ++ (range_parts request.range ++ closes Request ∷ []))
 
 -- the printed body
 abbrev pub printed : SelectRequest → List ℕ

@@ -7,11 +7,13 @@ mod checks;
 mod element;
 mod fault;
 mod found;
-mod print;
+mod printer;
 mod request;
 mod settings;
+mod valid;
 mod values;
 
+pub use printer::print;
 pub use fault::{ReadError, RequestFault, RequestFaultCode};
 pub use request::{
     CsvInput, CsvOutput, Delimiter, Header, Input, Output, ScanRange, SelectRequest, TextBuf,

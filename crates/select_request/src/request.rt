@@ -1,5 +1,6 @@
 //! A request, as its body spells it (Amazon S3 API Reference, `SelectObjectContent`).
 ghost use Rattle.std.specs.Prelude.{◌≡◌, IfOk, []};
+ghost use Rattle.std.specs.String.{string_bytes};
 ghost use Rattle.select_request.specs.Values.{holds, input_is_apart, output_is_apart};
 
 use std::alloc::{AllocError, Global};
@@ -153,6 +154,12 @@ impl TextBuf {
         Ok(TextBuf {
             text: String::from_str(alloc, text)?,
         })
+    }
+
+    pub(crate) fn from_string(text: String) -> TextBuf
+        ensures { result ≡ string_bytes text }
+    {
+        TextBuf { text }
     }
 
     pub(crate) fn empty(alloc: Global) -> TextBuf

@@ -54,7 +54,7 @@ pub(crate) fn quoting(text: &str) -> Option<bool>
 }
 
 /// Whether the byte is an ASCII character other than NUL.
-fn is_character(byte: u8) -> bool
+pub(crate) fn is_character(byte: u8) -> bool
     ensures { result ≡ is_character byte }
 {
     byte > 0 && byte < 128
