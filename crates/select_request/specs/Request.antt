@@ -23,10 +23,6 @@ abbrev pub find : Element → List Found → Option Found
 find e [] = None
 find e (f ∷ found) = if same_element f.element e then Some f else find e found
 
--- the element is there
-abbrev pub has : Element → List Found → Bool
-has e found = is_some (find e found)
-
 abbrev pub text_at : Option Found → Option (List ℕ)
 text_at None = None
 text_at (Some f) = Some f.text
@@ -34,6 +30,10 @@ text_at (Some f) = Some f.text
 -- its text
 abbrev pub text_in : Element → List Found → Option (List ℕ)
 text_in e found = text_at (find e found)
+
+-- the element is there
+abbrev pub has : Element → List Found → Bool
+has e found = is_some (text_in e found)
 
 abbrev pub place_at : Option Found → ℕ
 place_at None = 0

@@ -26,13 +26,6 @@ pub(crate) fn find(found: &[Found], element: Element) -> Option<&Found>
     None
 }
 
-/// Whether the element is there.
-pub(crate) fn has(found: &[Found], element: Element) -> bool
-    ensures { result ≡ has element found.now }
-{
-    find(found, element).is_some()
-}
-
 /// The element's text.
 pub(crate) fn text_in(found: &[Found], element: Element) -> Option<&str>
     ensures { option_map (λ t. t.now) result ≡ text_in element found.now }
@@ -41,6 +34,13 @@ pub(crate) fn text_in(found: &[Found], element: Element) -> Option<&str>
         Some(one) => Some(one.text.text()),
         None => None,
     }
+}
+
+/// Whether the element is there.
+pub(crate) fn has(found: &[Found], element: Element) -> bool
+    ensures { result ≡ has element found.now }
+{
+    text_in(found, element).is_some()
 }
 
 /// The place of the element's start tag, or 0 where it isn't there.
