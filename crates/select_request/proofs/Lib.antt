@@ -1,5 +1,6 @@
 mod Escaping
 mod Finding
+mod Lookups
 mod Parts
 mod Printables
 mod WholeNumber
