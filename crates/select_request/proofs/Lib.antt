@@ -3,4 +3,6 @@ mod Finding
 mod Lookups
 mod Parts
 mod Printables
+mod Readback
+mod Recovered
 mod WholeNumber
