@@ -5,4 +5,5 @@ mod Parts
 mod Printables
 mod Readback
 mod Recovered
+mod Resolved
 mod WholeNumber
