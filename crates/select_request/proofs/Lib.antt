@@ -3,6 +3,7 @@ mod Finding
 mod Lookups
 mod Parts
 mod Printables
+mod PrintedPieces
 mod Readback
 mod Recovered
 mod Resolved
