@@ -7,4 +7,5 @@ mod PrintedPieces
 mod Readback
 mod Recovered
 mod Resolved
+mod Trees
 mod WholeNumber

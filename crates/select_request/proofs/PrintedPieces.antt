@@ -44,7 +44,7 @@ skip_all (x ∷ xs) ys at = let e : at + 1 + length xs ≡ at + suc (length xs) 
 if_false : {A : Type 0} (t : Bool) (x y : A) → t ≡ false → (if t then x else y) ≡ y
 if_false t x y h = rw h refl
 
-eq_self : (n : ℕ) → (n == n) ≡ true
+pub eq_self : (n : ℕ) → (n == n) ≡ true
 eq_self n = eq-eqb n n refl
 
 or_true : (x y : Bool) → y ≡ true → (x || y) ≡ true
