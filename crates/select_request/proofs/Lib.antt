@@ -4,6 +4,7 @@ mod Lookups
 mod Parts
 mod Printables
 mod PrintedPieces
+mod PrintedTree
 mod Readback
 mod Recovered
 mod Resolved

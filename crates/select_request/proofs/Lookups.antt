@@ -110,7 +110,7 @@ wanted r ScanRange = of_range r.range
 wanted r Start = of_start r.range
 wanted r End = of_end r.range
 
-abbrev request_with : List ℕ → Bool → Input → Output → Option Range → SelectRequest
+abbrev pub request_with : List ℕ → Bool → Input → Output → Option Range → SelectRequest
 request_with x p i o g = record { expression = x; progress = p; input = i; output = o; range = g }
 
 text_is : (x : List ℕ) (p : Bool) (i : Input) (o : Output) (g : Option Range) (e : Element)

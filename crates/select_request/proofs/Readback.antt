@@ -61,13 +61,13 @@ number_read n small =
     let fits : nat_lt n (2 ^ 63) ≡ true = grind (arith, nat_tests) in
     rw (digits, value, fits) refl
 
-less : (a b : ℕ) → nat_lt a b ≡ true → a < b
+pub less : (a b : ℕ) → nat_lt a b ≡ true → a < b
 less a b h = grind (arith, nat_tests)
 
 at_most : (a b : ℕ) → nat_le a b ≡ true → nat_lt b a ≡ false
 at_most a b h = grind (arith, nat_tests)
 
-at_most_less : (a b : ℕ) (n : ℕ) → nat_le a b ≡ true → nat_lt b n ≡ true → a < n
+pub at_most_less : (a b : ℕ) (n : ℕ) → nat_le a b ≡ true → nat_lt b n ≡ true → a < n
 at_most_less a b n h k = grind (arith, nat_tests)
 
 not_zero : (n : ℕ) → nat_lt 0 n ≡ true → (n == 0) ≡ false

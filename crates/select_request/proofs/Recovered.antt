@@ -112,16 +112,16 @@ texts_are r = funext (found_is r)
 
 -- ---- the values
 
-record CsvInputHolds (csv : CsvInputSettings) : Type 0 where
-  comment : is_character csv.comment ≡ true
-  field : is_character csv.field ≡ true
-  quote : is_character csv.quote ≡ true
-  escape : is_character csv.escape ≡ true
-  delimiter : is_delimiter csv.delimiter ≡ true
-  one : is_one csv.delimiter ≡ true
-  apart : input_is_apart csv ≡ true
+pub record CsvInputHolds (csv : CsvInputSettings) : Type 0 where
+  pub comment : is_character csv.comment ≡ true
+  pub field : is_character csv.field ≡ true
+  pub quote : is_character csv.quote ≡ true
+  pub escape : is_character csv.escape ≡ true
+  pub delimiter : is_delimiter csv.delimiter ≡ true
+  pub one : is_one csv.delimiter ≡ true
+  pub apart : input_is_apart csv ≡ true
 
-csv_input_holds : (csv : CsvInputSettings) → is_csv_input csv ≡ true → CsvInputHolds csv
+pub csv_input_holds : (csv : CsvInputSettings) → is_csv_input csv ≡ true → CsvInputHolds csv
 csv_input_holds csv h =
     let c = is_character csv.comment in
     let f = is_character csv.field in
@@ -140,14 +140,14 @@ csv_input_holds csv h =
       apart = and_right (c && f && q && e && d && o) (input_is_apart csv) h;
     }
 
-record CsvOutputHolds (csv : CsvOutputSettings) : Type 0 where
-  field : is_character csv.field ≡ true
-  quote : is_character csv.quote ≡ true
-  escape : is_character csv.escape ≡ true
-  delimiter : is_delimiter csv.delimiter ≡ true
-  apart : output_is_apart csv ≡ true
+pub record CsvOutputHolds (csv : CsvOutputSettings) : Type 0 where
+  pub field : is_character csv.field ≡ true
+  pub quote : is_character csv.quote ≡ true
+  pub escape : is_character csv.escape ≡ true
+  pub delimiter : is_delimiter csv.delimiter ≡ true
+  pub apart : output_is_apart csv ≡ true
 
-csv_output_holds : (csv : CsvOutputSettings) → is_csv_output csv ≡ true → CsvOutputHolds csv
+pub csv_output_holds : (csv : CsvOutputSettings) → is_csv_output csv ≡ true → CsvOutputHolds csv
 csv_output_holds csv h =
     let f = is_character csv.field in
     let q = is_character csv.quote in

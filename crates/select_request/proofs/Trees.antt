@@ -21,7 +21,7 @@ use Rattle.select_request.proofs.PrintedPieces.{symbol, raw_symbols, leaf_symbol
 -- an element with a text, or with others in it
 mutual
   pub data Tree : Type 0 where
-    text : Element → List ℕ → Tree
+    with_text : Element → List ℕ → Tree
     node : Element → Trees → Tree
 
   pub data Trees : Type 0 where
@@ -29,12 +29,12 @@ mutual
     tree : Tree → Trees → Trees
 
 abbrev pub root_of : Tree → Element
-root_of (text e t) = e
+root_of (with_text e t) = e
 root_of (node e ts) = e
 
 abbrev mutual
   pub tree_parts : Tree → List Part
-  tree_parts (text e t) = leaf e t ∷ []
+  tree_parts (with_text e t) = leaf e t ∷ []
   tree_parts (node e ts) = opens e ∷ (trees_parts ts ++ closes e ∷ [])
 
   pub trees_parts : Trees → List Part
@@ -52,7 +52,7 @@ each_element e = true
 -- whether each element stands where it may, and once
 abbrev mutual
   pub is_tree : Tree → ℕ → Bool
-  is_tree (text e t) depth = is_leaf_within depth e
+  is_tree (with_text e t) depth = is_leaf_within depth e
   is_tree (node e ts) zero = false
   is_tree (node e ts) (suc depth) = not (is_leaf e) && are_trees ts depth e each_element
 
@@ -64,7 +64,7 @@ abbrev mutual
 -- each text is read back
 abbrev mutual
   pub TreeReads : Tree → Type 0
-  TreeReads (text e t) = text_value (escaped t) ≡ Some t
+  TreeReads (with_text e t) = text_value (escaped t) ≡ Some t
   TreeReads (node e ts) = TreesRead ts
 
   pub TreesRead : Trees → Type 0
@@ -244,7 +244,7 @@ closed_found parts e at = found_append parts (closes e ∷ []) at ∙ append-nil
 
 mutual
   pub tree_spelled : (t : Tree) (depth at : ℕ) → is_tree t depth ≡ true → TreeReads t → (element_within depth (root_of t)).Spells (found_in at (tree_parts t)) (symbols_in at (tree_parts t))
-  tree_spelled (text e t) depth at valid reads =
+  tree_spelled (with_text e t) depth at valid reads =
       leaf_within depth e _ _ valid (subst (λ (z : List Symbol). (leaf_rule e).Spells (found_alone e at t) z) (sym (append-nil (leaf_symbols at e (escaped t)))) (leaf_spelled e at (escaped t) t reads))
   tree_spelled (node e ts) zero at valid reads = absurd (false_is_not_true valid)
   tree_spelled (node e ts) (suc depth) at valid reads =
