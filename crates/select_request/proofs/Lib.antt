@@ -3,6 +3,7 @@ mod Finding
 mod Lookups
 mod Parts
 mod Printables
+mod PrintedLength
 mod PrintedPieces
 mod PrintedTree
 mod Readback
