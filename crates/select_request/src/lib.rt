@@ -4,9 +4,14 @@
 #![tactic(auto)]
 
 mod element;
+mod elements;
 mod fault;
 mod found;
+mod pieces;
 mod request;
+#[cfg(test)]
+mod tests;
+mod text;
 
 pub use fault::{ReadError, RequestFault, RequestFaultCode};
 pub use request::{

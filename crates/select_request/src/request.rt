@@ -1,5 +1,6 @@
 //! A request, as its body spells it (Amazon S3 API Reference, `SelectObjectContent`).
 ghost use Rattle.std.specs.Prelude.{◌≡◌, IfOk};
+ghost use Rattle.std.specs.String.{string_bytes};
 
 use std::alloc::{AllocError, Global};
 use std::marker::Model;
@@ -110,6 +111,13 @@ impl TextBuf {
         Ok(TextBuf {
             text: String::from_str(alloc, text)?,
         })
+    }
+
+    /// The text of a `String`, which isn't copied.
+    pub(crate) fn from_string(text: String) -> TextBuf
+        ensures { result ≡ string_bytes text }
+    {
+        TextBuf { text }
     }
 
     pub fn text(&self) -> &str
