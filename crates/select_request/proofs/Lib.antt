@@ -1,13 +1,23 @@
-mod Escaping
-mod Finding
-mod Lookups
-mod Parts
-mod Printables
-mod PrintedLength
-mod PrintedPieces
-mod PrintedTree
-mod Readback
-mod Recovered
-mod Resolved
-mod Trees
-mod WholeNumber
+pub mod BodyAnswers
+pub mod ByteLaws
+pub mod ChildLaws
+pub mod CutLaws
+pub mod Escaping
+pub mod Finding
+pub mod Lookups
+pub mod OneFault
+pub mod Parts
+pub mod Printables
+pub mod PrintedLength
+pub mod PrintedPieces
+pub mod PrintedTree
+pub mod Printing
+pub mod Readback
+pub mod ReaderSteps
+pub mod Readings
+pub mod Recovered
+pub mod Resolved
+pub mod TableLaws
+pub mod TextLaws
+pub mod Trees
+pub mod WholeNumber

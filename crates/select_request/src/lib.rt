@@ -3,18 +3,30 @@
 //! The body is the XML of Amazon S3's `SelectObjectContentRequest`.
 #![tactic(auto)]
 
+mod body;
 mod checks;
 mod element;
+mod elements;
 mod fault;
 mod found;
+mod law;
+mod pieces;
 mod printer;
 mod request;
 mod settings;
+mod text;
 mod valid;
 mod values;
 
-pub use printer::print;
+pub use body::{LONGEST_BODY, read};
 pub use fault::{ReadError, RequestFault, RequestFaultCode};
+pub use law::print_and_read;
+pub use printer::print;
 pub use request::{
     CsvInput, CsvOutput, Delimiter, Header, Input, Output, ScanRange, SelectRequest, TextBuf,
 };
+
+#[cfg(test)]
+mod body_tests;
+#[cfg(test)]
+mod tests;

@@ -1,6 +1,7 @@
 //! A request is printed as a body: its elements in the order of the table, each with its value.
 ghost use Rattle.std.specs.Prelude.{◌≡◌, ◌++◌, ◌<◌, length, [], ◌∷◌, Some, IfOk, OnOk, IsTrue, MatchOption, decimal};
 ghost use Rattle.select_request.specs.Printed.{escaped_byte, escaped, truth_text, header_text, quoting_text, delimiter_text, opens, leaf, closes, start_tag, end_tag, print_part, print_parts, csv_input_parts, input_parts, csv_output_parts, output_parts, range_parts, settings_parts, printed};
+ghost use Rattle.select_request.specs.Reading.{SpellsRequest};
 ghost use Rattle.select_request.specs.Printable.{is_csv_input, is_csv_output, is_input, is_output, is_delimiter, is_printable};
 
 use crate::element::Element;
@@ -305,7 +306,8 @@ fn cut_at_special(text: &str) -> Option<(&str, u8, &str)>
 /// the elements.
 pub fn print(alloc: Global, request: &SelectRequest) -> Result<TextBuf, AllocError>
     requires { IsTrue (is_printable request.now) }
-    ensures { IfOk result (λ text. text ≡ printed request.now) }
+    ensures text { IfOk result (λ text. text ≡ printed request.now) }
+    ensures spells { IfOk result (λ text. SpellsRequest text request.now) }
 {
     let mut printer = Printer::new(alloc, request.expression.text().len() + SETTINGS_ROOM)?;
     printer.request(request)?;

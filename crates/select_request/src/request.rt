@@ -156,6 +156,7 @@ impl TextBuf {
         })
     }
 
+    /// The text of a `String`, which isn't copied.
     pub(crate) fn from_string(text: String) -> TextBuf
         ensures { result ≡ string_bytes text }
     {

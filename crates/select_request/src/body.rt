@@ -1,0 +1,47 @@
+//! A request body is read.
+ghost use Rattle.std.specs.Prelude.{◌≡◌, ◌<◌, MatchResult};
+ghost use Rattle.select_request.specs.declared.fault.RequestFaultCode.TheVariants.{MalformedXML};
+ghost use Rattle.select_request.specs.declared.fault.RequestFault.{RequestFault};
+ghost use Rattle.select_request.specs.declared.request.SelectRequest.{SelectRequest};
+ghost use Rattle.select_request.specs.declared.fault.ReadError.TheVariants.{Refused};
+ghost use Rattle.select_request.specs.Reading.{longest_body, SpellsRequest, HasFault, Reads, Gives, Refuses};
+
+use crate::elements::{ElementsError, elements};
+use crate::fault::{ReadError, RequestFault, RequestFaultCode};
+use crate::request::SelectRequest;
+use crate::settings::request_of;
+use std::alloc::Global;
+
+/// The longest body that is read, in bytes.
+pub const LONGEST_BODY: usize = 2_097_152;
+
+/// The body is none by its grammar, at this place.
+fn malformed(at: usize) -> RequestFault
+    ensures { result ≡ record { code = MalformedXML; at = at } }
+{
+    RequestFault {
+        code: RequestFaultCode::MalformedXML,
+        at: at as u64,
+    }
+}
+
+/// Reads a request body, the XML of Amazon S3's `SelectObjectContentRequest`.
+pub fn read(alloc: Global, body: &[u8]) -> Result<SelectRequest, ReadError>
+    ensures reads { Reads body.now result }
+
+    // A request that the body spells is the answer, and so is a fault that it has, but for want of memory.
+    ensures request { (request : SelectRequest) → SpellsRequest body.now request → Gives request result }
+    ensures fault { (fault : RequestFault) → HasFault body.now fault → Refuses fault result }
+{
+    if body.len() > LONGEST_BODY {
+        return Err(ReadError::Refused(malformed(LONGEST_BODY)));
+    }
+    match elements(alloc, body) {
+        Ok(found) => match request_of(alloc, found) {
+            Ok(request) => Ok(request),
+            Err(fault) => Err(ReadError::Refused(fault)),
+        },
+        Err(ElementsError::Malformed(at)) => Err(ReadError::Refused(malformed(at))),
+        Err(ElementsError::OutOfMemory) => Err(ReadError::OutOfMemory),
+    }
+}
