@@ -1,50 +1,35 @@
--- The request body: XML of one fixed shape round the expression's text.
-use Rattle.std.specs.Prelude.{◌≡◌, ℕ, ◌<◌, ◌≤◌, ◌⊎◌, ◌||◌, ◌==◌, Bool, true, List, ◌++◌, length, slice_index, codes, IsUtf8, Result, Ok, Err}
-use Rattle.select_request.specs.declared.request.SelectRequest.{SelectRequest}
-use Rattle.select_request.specs.declared.fault.ReadError.{ReadError}
-use Rattle.select_request.specs.declared.fault.ReadError.TheVariants.{Refused, OutOfMemory}
-use Rattle.select_request.specs.declared.fault.RequestFaultCode.{RequestFaultCode}
-use Rattle.select_request.specs.declared.fault.RequestFaultCode.TheVariants.{MalformedXML, NotBuilt}
+-- What a body is by its grammar: the elements that it has, or the place at which it is refused.
+use Rattle.std.specs.Prelude.{◌≡◌, ℕ, List}
+use Rattle.grammar_rules.specs.Places.{RefusedThere}
+use Rattle.select_request.specs.declared.found.Found.{Found}
+use Rattle.select_request.specs.declared.elements.ElementsError.{ElementsError}
+use Rattle.select_request.specs.declared.elements.ElementsError.TheVariants.{Malformed, OutOfMemory}
+use Rattle.select_request.specs.declared.elements.Failure.{Failure}
+use Rattle.select_request.specs.declared.elements.Failure.TheVariants.{Refused, Memory}
+use Rattle.select_request.specs.Pieces.{symbols_of, place_of}
+use Rattle.select_request.specs.Grammar.{request_body}
 
--- what stands before the expression's text
-abbrev pub opening : List ℕ
-opening = codes "<SelectObjectContentRequest><Expression>"
+-- the body's pieces spell these elements
+abbrev pub HasElements : List ℕ → List Found → Type 0
+HasElements body found = request_body.Spells found (symbols_of body)
 
--- what stands after it
-abbrev pub closing : List ℕ
-closing = codes "</Expression><ExpressionType>SQL</ExpressionType><InputSerialization><CSV/></InputSerialization><OutputSerialization><CSV/></OutputSerialization></SelectObjectContentRequest>"
+-- the first piece that can't stand there has this place, or the body ends there too early
+pub record IsMalformed (body : List ℕ) (at : ℕ) : Type 0 where
+  pub piece : ℕ
+  pub refused : RefusedThere request_body (symbols_of body) piece
+  pub place : at ≡ place_of body piece
 
--- the most bytes of a body
-abbrev pub longest_body : ℕ
-longest_body = 2097152
+-- the error tells that place
+abbrev pub IsMalformedAs : List ℕ → ElementsError → Type 0
+IsMalformedAs body (Malformed at) = IsMalformed body at
+IsMalformedAs body OutOfMemory = Unit {0}
 
--- a byte that doesn't stand for itself in a text of XML: `<`, `&` or NUL
-abbrev pub is_markup : ℕ → Bool
-is_markup byte = byte == 60 || byte == 38 || byte == 0
+-- the error is at this place, but for want of memory
+abbrev pub IsAt : ℕ → ElementsError → Type 0
+IsAt place (Malformed at) = at ≡ place
+IsAt place OutOfMemory = Unit {0}
 
--- a text of XML without references
-pub record IsPlainText (text : List ℕ) : Type 0 where
-  pub encoded : IsUtf8 text
-  pub plain : (k : ℕ) → k < length text → ¬ (is_markup (slice_index text k) ≡ true)
-
--- the body is the opening, the expression's text, and the closing
-pub record Spells (expression body : List ℕ) : Type 0 where
-  pub bytes : body ≡ opening ++ expression ++ closing
-  pub text : IsPlainText expression
-
--- a body that is neither empty nor too long
-pub record IsSized (body : List ℕ) : Type 0 where
-  pub some : 0 < length body
-  pub limited : length body ≤ longest_body
-
--- An empty body is malformed at its front, and one that is too long at the limit. Another body that spells no expression
--- is of a shape that isn't built.
-abbrev pub Refuses : List ℕ → RequestFaultCode → ℕ → Type 0
-Refuses body MalformedXML at = ((length body ≡ 0) × (at ≡ 0)) ⊎ ((longest_body < length body) × (at ≡ longest_body))
-Refuses body NotBuilt at = (at ≡ 0) × IsSized body × ((expression : List ℕ) → Spells expression body → ⊥)
-
--- what reading a body gives, but for want of memory
-abbrev pub Reads : List ℕ → Result SelectRequest ReadError → Type 0
-Reads body (Ok request) = IsSized body × Spells request.expression body
-Reads body (Err (Refused fault)) = Refuses body fault.code fault.at
-Reads body (Err OutOfMemory) = Unit {0}
+-- the error that a failure at this place is
+abbrev pub error_of : Failure → ℕ → ElementsError
+error_of Refused at = Malformed at
+error_of Memory at = OutOfMemory

@@ -1,59 +1,47 @@
-//! Reading a body.
-ghost use Rattle.std.specs.Prelude.{◌≡◌, ℕ, List, MatchOption, Err};
-ghost use Rattle.select_request.specs.Body.{IsPlainText, Spells, Reads};
+//! A request body is read.
+ghost use Rattle.std.specs.Prelude.{◌≡◌, ◌<◌, MatchResult};
+ghost use Rattle.select_request.specs.declared.fault.RequestFaultCode.TheVariants.{MalformedXML};
+ghost use Rattle.select_request.specs.declared.fault.RequestFault.{RequestFault};
+ghost use Rattle.select_request.specs.declared.request.SelectRequest.{SelectRequest};
+ghost use Rattle.select_request.specs.declared.fault.ReadError.TheVariants.{Refused};
+ghost use Rattle.select_request.specs.Reading.{longest_body, SpellsRequest, HasFault, Reads, Gives, Refuses};
 
-use crate::{ReadError, RequestFault, RequestFaultCode, SelectRequest, TextBuf};
-use memchr::memchr3;
+use crate::elements::{ElementsError, elements};
+use crate::fault::{ReadError, RequestFault, RequestFaultCode};
+use crate::request::SelectRequest;
+use crate::settings::request_of;
 use std::alloc::Global;
 
-/// The most bytes of a body.
+/// The longest body that is read, in bytes.
 pub const LONGEST_BODY: usize = 2_097_152;
 
-const OPENING: &[u8] = b"<SelectObjectContentRequest><Expression>";
+/// The body is none by its grammar, at this place.
+fn malformed(at: usize) -> RequestFault
+    ensures { result ≡ record { code = MalformedXML; at = at } }
+{
+    RequestFault {
+        code: RequestFaultCode::MalformedXML,
+        at: at as u64,
+    }
+}
 
-const CLOSING: &[u8] =
-    b"</Expression><ExpressionType>SQL</ExpressionType><InputSerialization><CSV/></InputSerialization><OutputSerialization><CSV/></OutputSerialization></SelectObjectContentRequest>";
-
-/// Reads a body of at most [`LONGEST_BODY`] bytes.
-///
-/// The expression's text is copied once, and is all the memory that is taken.
+/// Reads a request body, the XML of Amazon S3's `SelectObjectContentRequest`.
 pub fn read(alloc: Global, body: &[u8]) -> Result<SelectRequest, ReadError>
-    ensures { Reads body.now result }
+    ensures reads { Reads body.now result }
+
+    // A request that the body spells is the answer, and so is a fault that it has, but for want of memory.
+    ensures request { (request : SelectRequest) → SpellsRequest body.now request → Gives request result }
+    ensures fault { (fault : RequestFault) → HasFault body.now fault → Refuses fault result }
 {
-    if body.is_empty() {
-        return refused(RequestFaultCode::MalformedXML, 0);
-    }
     if body.len() > LONGEST_BODY {
-        return refused(RequestFaultCode::MalformedXML, LONGEST_BODY as u64);
+        return Err(ReadError::Refused(malformed(LONGEST_BODY)));
     }
-    let Some(expression) = expression_of(body) else {
-        return refused(RequestFaultCode::NotBuilt, 0);
-    };
-    match TextBuf::of(alloc, expression) {
-        Ok(expression) => Ok(SelectRequest { expression }),
-        Err(_) => Err(ReadError::OutOfMemory),
+    match elements(alloc, body) {
+        Ok(found) => match request_of(alloc, found) {
+            Ok(request) => Ok(request),
+            Err(fault) => Err(ReadError::Refused(fault)),
+        },
+        Err(ElementsError::Malformed(at)) => Err(ReadError::Refused(malformed(at))),
+        Err(ElementsError::OutOfMemory) => Err(ReadError::OutOfMemory),
     }
-}
-
-fn refused(code: RequestFaultCode, at: u64) -> Result<SelectRequest, ReadError>
-    ensures { result ≡ Err (ReadError.Refused (record { code = code; at = at })) }
-{
-    Err(ReadError::Refused(RequestFault { code, at }))
-}
-
-// The expression that a body of the one shape spells.
-fn expression_of(body: &[u8]) -> Option<&str>
-    ensures { MatchOption result ((expression : List ℕ) → Spells expression body.now → ⊥) (λ text. Spells text.now body.now) }
-{
-    plain_text(body.strip_prefix(OPENING)?.strip_suffix(CLOSING)?)
-}
-
-// A text of XML that has no markup and no reference in it.
-fn plain_text(bytes: &[u8]) -> Option<&str>
-    ensures { MatchOption result (IsPlainText bytes.now → ⊥) (λ text. (text.now ≡ bytes.now) × IsPlainText bytes.now) }
-{
-    if memchr3(b'<', b'&', 0, bytes).is_some() {
-        return None;
-    }
-    simdutf8::compat::from_utf8(bytes).ok()
 }

@@ -11,10 +11,20 @@ pub struct RequestFault {
 /// The kinds of faults, each named as in the reply.
 #[derive(Clone, Copy, Debug, PartialEq, Eq)]
 pub enum RequestFaultCode {
-    /// The body is empty or too long.
+    /// The body is too long, or is none by the grammar: the first piece that can't stand there, or its end.
     MalformedXML,
-    /// The body has a shape that isn't built yet.
-    NotBuilt,
+    /// An element is missing, at its parent.
+    MissingRequiredParameter,
+    /// The expression's type isn't SQL.
+    InvalidExpressionType,
+    /// A value is none of its element, or values stand in each other's way.
+    InvalidRequestParameter,
+    /// The object is compressed.
+    InvalidCompressionFormat,
+    /// The scan range is none.
+    InvalidScanRange,
+    /// A scan range over CSV whose quoted fields may hold record delimiters.
+    UnsupportedScanRangeInput,
 }
 
 /// A body was refused, or memory was.

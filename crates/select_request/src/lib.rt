@@ -1,16 +1,32 @@
 //! A request body is read exactly: the request that it spells, or the first fault with its place.
 //!
-//! The body is the XML of Amazon S3's `SelectObjectContentRequest`. So far it has one shape: an expression over CSV, with
-//! every setting at its default.
+//! The body is the XML of Amazon S3's `SelectObjectContentRequest`.
 #![tactic(auto)]
 
 mod body;
+mod checks;
+mod element;
+mod elements;
 mod fault;
+mod found;
+mod law;
+mod pieces;
+mod printer;
 mod request;
+mod settings;
+mod text;
+mod valid;
+mod values;
 
 pub use body::{LONGEST_BODY, read};
 pub use fault::{ReadError, RequestFault, RequestFaultCode};
-pub use request::{SelectRequest, TextBuf};
+pub use law::print_and_read;
+pub use printer::print;
+pub use request::{
+    CsvInput, CsvOutput, Delimiter, Header, Input, Output, ScanRange, SelectRequest, TextBuf,
+};
 
+#[cfg(test)]
+mod body_tests;
 #[cfg(test)]
 mod tests;

@@ -1,0 +1,30 @@
+-- What a printable request has.
+use Rattle.std.specs.Prelude.{◌≡◌, Bool, true, false, ◌&&◌, refl}
+use Rattle.select_request.specs.Printable.{is_expression, is_input, is_output, is_range_of, is_printable}
+use Rattle.select_request.specs.declared.request.SelectRequest.{SelectRequest}
+
+pub and_left : (a b : Bool) → (a && b) ≡ true → a ≡ true
+and_left true b h = refl
+and_left false b h = h
+
+pub and_right : (a b : Bool) → (a && b) ≡ true → b ≡ true
+and_right true b h = h
+and_right false true h = refl
+and_right false false h = h
+
+pub record Printable (request : SelectRequest) : Type 0 where
+  pub expression : is_expression request.expression ≡ true
+  pub input : is_input request.input ≡ true
+  pub output : is_output request.output ≡ true
+  pub range : is_range_of request.input request.range ≡ true
+
+pub printable : (request : SelectRequest) → is_printable request ≡ true → Printable request
+unfolding is_printable
+printable request h =
+    let e = is_expression request.expression in
+    let i = is_input request.input in
+    let o = is_output request.output in
+    let r = is_range_of request.input request.range in
+    let three = and_left (e && i && o) r h in
+    let two = and_left (e && i) o three in
+    record { expression = and_left e i two; input = and_right e i two; output = and_right (e && i) o three; range = and_right (e && i && o) r h }

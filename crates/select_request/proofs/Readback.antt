@@ -1,0 +1,85 @@
+-- Each value is read back from its text.
+use Rattle.std.specs.Prelude.{◌≡◌, ℕ, ◌^◌, ◌<◌, ◌≤◌, Bool, true, false, nat_lt, nat_le, ◌&&◌, ◌==◌, List, [], ◌∷◌, length, Option, None, Some, decimal, if◌then◌else◌, refl}
+use Rattle.std.proofs.Common.{sym, ◌∙◌, ap, arith}
+use Rattle.std.proofs.lemmas.Bool.Decides.{nat_tests}
+use Rattle.std.proofs.lemmas.Fmt.{digits_value-decimal, digits_decimal, decimal_nonempty}
+use Rattle.std.specs.Str.{all_ascii_digits}
+use Rattle.std.specs.Str.Parse.{digits_value}
+use Rattle.select_request.specs.Values.{is_word, is_character, is_digits, truth_of, header_of, quoting_of, character_of, one_of, one_or_two_of, whole_number_of, between, from_start, last_bytes, range_of}
+use Rattle.select_request.specs.Printed.{truth_text, header_text, quoting_text, delimiter_text}
+use Rattle.select_request.specs.Printable.{is_delimiter, is_one, is_range}
+use Rattle.select_request.proofs.Printables.{and_left, and_right}
+use Rattle.select_request.proofs.WholeNumber.{own}
+use Rattle.select_request.proofs.Lookups.{of_start, of_end}
+use Rattle.select_request.specs.declared.request.Delimiter.{Delimiter}
+use Rattle.select_request.specs.declared.request.Delimiter.TheVariants.{One, Two}
+use Rattle.select_request.specs.declared.request.Header.{Header}
+use Rattle.select_request.specs.declared.request.Header.TheVariants.{Without, Ignore, Use}
+use Rattle.select_request.specs.declared.request.ScanRange.{ScanRange}
+use Rattle.select_request.specs.declared.request.ScanRange.TheVariants.{Between, From, Last}
+
+pub truth_read : (b : Bool) → truth_of (truth_text b) ≡ Some b
+unfolding is_word
+truth_read true = refl
+truth_read false = refl
+
+pub header_read : (h : Header) → header_of (header_text h) ≡ Some h
+unfolding is_word
+header_read Without = refl
+header_read Ignore = refl
+header_read Use = refl
+
+pub quoting_read : (b : Bool) → quoting_of (quoting_text b) ≡ Some b
+unfolding is_word
+quoting_read true = refl
+quoting_read false = refl
+
+if_true : {A : Type 0} (t : Bool) (x y : A) → t ≡ true → (if t then x else y) ≡ x
+if_true t x y h = rw h refl
+
+pub character_read : (b : ℕ) → is_character b ≡ true → character_of (b ∷ []) ≡ Some b
+character_read b h = if_true (is_character b) (Some b) None h
+
+pub one_read : (d : Delimiter) → is_delimiter d ≡ true → is_one d ≡ true → one_of (delimiter_text d) ≡ Some d
+one_read (One a) h one = if_true (is_character a) (Some (One a)) None h
+one_read (Two a b) h one = absurd ((λ (e : false ≡ true). let no : ⊥ = cc in no) one)
+
+pub one_or_two_read : (d : Delimiter) → is_delimiter d ≡ true → one_or_two_of (delimiter_text d) ≡ Some d
+one_or_two_read (One a) h = if_true (is_character a) (Some (One a)) None h
+one_or_two_read (Two a b) h = if_true (is_character a && is_character b) (Some (Two a b)) None h
+
+digits_are_digits : (text : List ℕ) → all_ascii_digits text ≡ true → 0 < length text → is_digits text ≡ true
+digits_are_digits [] h some = absurd (omega arith)
+digits_are_digits (b ∷ bytes) h some = h
+
+pub number_read : (n : ℕ) → n < 2 ^ 63 → whole_number_of (decimal n) ≡ Some n
+unfolding whole_number_of
+number_read n small =
+    let below : n < 2 ^ 64 = omega arith in
+    let value : digits_value 10 (decimal n) ≡ n = digits_value-decimal own n below in
+    let digits : is_digits (decimal n) ≡ true = digits_are_digits (decimal n) (digits_decimal own n below) (decimal_nonempty n below) in
+    let fits : nat_lt n (2 ^ 63) ≡ true = grind (arith, nat_tests) in
+    rw (digits, value, fits) refl
+
+pub less : (a b : ℕ) → nat_lt a b ≡ true → a < b
+less a b h = grind (arith, nat_tests)
+
+at_most : (a b : ℕ) → nat_le a b ≡ true → nat_lt b a ≡ false
+at_most a b h = grind (arith, nat_tests)
+
+pub at_most_less : (a b : ℕ) (n : ℕ) → nat_le a b ≡ true → nat_lt b n ≡ true → a < n
+at_most_less a b n h k = grind (arith, nat_tests)
+
+not_zero : (n : ℕ) → nat_lt 0 n ≡ true → (n == 0) ≡ false
+not_zero n h = grind (arith, nat_tests)
+
+pub range_read : (g : ScanRange) → is_range g ≡ true → range_of (of_start (Some g)) (of_end (Some g)) ≡ Some g
+range_read (Between start end) h =
+    let order = and_left (nat_le start end) (nat_lt end (2 ^ 63)) h in
+    let small = and_right (nat_le start end) (nat_lt end (2 ^ 63)) h in
+    rw (number_read start (at_most_less start end (2 ^ 63) order small), number_read end (less end (2 ^ 63) small), at_most start end order) refl
+range_read (From start) h = rw (number_read start (less start (2 ^ 63) h)) refl
+range_read (Last count) h =
+    let some = and_left (nat_lt 0 count) (nat_lt count (2 ^ 63)) h in
+    let small = and_right (nat_lt 0 count) (nat_lt count (2 ^ 63)) h in
+    rw (number_read count (less count (2 ^ 63) small), not_zero count some) refl

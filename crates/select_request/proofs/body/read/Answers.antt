@@ -1,0 +1,13 @@
+use Rattle.std.specs.Prelude.{◌≡◌, ◌≤◌, length}
+use Rattle.std.proofs.Common.{◌∙◌, ap, arith}
+use Rattle.select_request.specs.Reading.{longest_body}
+use Rattle.select_request.proofs.OneFault.{refused_at, malformed_one_fault}
+use Rattle.select_request.proofs.body.read.Goals as goal
+
+pub returns-in-Err-Malformed-clause-fault : goal.returns-in-Err-Malformed-clause-fault
+returns-in-Err-Malformed-clause-fault c =
+    let short : length c.args.body.now ≤ longest_body = omega arith in
+    λ fault has.
+      c.malformed-in-Err-Malformed.ensures
+      ∙ ap refused_at c.in-Err-Malformed.at-is
+      ∙ malformed_one_fault c.args.body.now c.in-Err-Malformed.field-0 c.in-Err-Malformed.at c.in-Err-Malformed.field-0-is short c.in-Err-Malformed.ensures.spelled c.in-Err-Malformed.ensures.refused fault has

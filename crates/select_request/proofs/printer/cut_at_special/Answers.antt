@@ -1,0 +1,22 @@
+use Rattle.std.specs.Prelude.{◌≡◌, ℕ, ◌+◌, ◌-◌, ◌<◌, true, length, slice_index}
+use Rattle.std.proofs.Common.{arith, sym, ◌∙◌, add-one, rules}
+use Rattle.std.proofs.lemmas.Str.{IsCharBoundary-after_ascii}
+use Rattle.select_request.proofs.Escaping.{cut_none, special_at, cut_at}
+use Rattle.select_request.proofs.printer.cut_at_special.Goals as goal
+
+pub returns-in_err-at : goal.returns-in_err-at
+returns-in_err-at c = rw c.from_residual.ensures (cut_none c.args.text.now c.as_bytes.result.now c.as_bytes.ensures.value c.in_err-at.ensures)
+
+pub range_from-requires : goal.range_from-requires
+range_from-requires c =
+    let special = special_at c.args.text.now c.as_bytes.result.now c.in_ok-at.at c.as_bytes.ensures.value c.in_ok-at.ensures in
+    λ above. IsCharBoundary-after_ascii c.args.text.now c.in_ok-at.at c.utf8.text special.0 special.1
+
+pub returns : goal.returns
+returns c =
+    let special = special_at c.args.text.now c.as_bytes.result.now c.in_ok-at.at c.as_bytes.ensures.value c.in_ok-at.ensures in
+    let cut = cut_at c.args.text.now c.as_bytes.result.now c.in_ok-at.at c.as_bytes.ensures.value c.in_ok-at.ensures in
+    let shorter : length c.range_from.result.now < length c.args.text.now = omega (arith, c.range_from.ensures.len) in
+    rw (c.as_bytes-2.ensures.value) (
+      special.1, shorter,
+      let front : c.in_ok-at.at - 0 ≡ c.in_ok-at.at = omega arith in rw (c.range_from.ensures.value, c.range.ensures.value, front) cut)

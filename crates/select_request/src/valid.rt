@@ -1,0 +1,121 @@
+//! The values that pass the checks that a body's do.
+ghost use Rattle.std.specs.Prelude.{◌≡◌, is_some};
+ghost use Rattle.select_request.specs.Values.{is_character};
+ghost use Rattle.select_request.specs.Printable.{is_delimiter, is_one, is_csv_input, is_csv_output, is_input, is_output, is_range, allows_range, is_range_of, is_expression, is_printable};
+
+use crate::request::{CsvInput, CsvOutput, Delimiter, Input, Output, ScanRange, SelectRequest};
+use crate::values::is_character;
+use memchr::memchr;
+
+/// The longest expression that is printed, in bytes.
+const LONGEST_EXPRESSION: usize = 262_144;
+
+/// Whether the delimiter's bytes are ASCII characters.
+fn is_delimiter(delimiter: Delimiter) -> bool
+    ensures { result ≡ is_delimiter delimiter }
+{
+    match delimiter {
+        Delimiter::One(byte) => is_character(byte),
+        Delimiter::Two(first, second) => is_character(first) && is_character(second),
+    }
+}
+
+fn is_one(delimiter: Delimiter) -> bool
+    ensures { result ≡ is_one delimiter }
+{
+    match delimiter {
+        Delimiter::One(_) => true,
+        Delimiter::Two(_, _) => false,
+    }
+}
+
+fn is_csv_input(csv: CsvInput) -> bool
+    ensures { result ≡ is_csv_input csv }
+{
+    is_character(csv.comment)
+        && is_character(csv.field)
+        && is_character(csv.quote)
+        && is_character(csv.escape)
+        && is_delimiter(csv.delimiter)
+        && is_one(csv.delimiter)
+        && csv.is_apart()
+}
+
+fn is_csv_output(csv: CsvOutput) -> bool
+    ensures { result ≡ is_csv_output csv }
+{
+    is_character(csv.field)
+        && is_character(csv.quote)
+        && is_character(csv.escape)
+        && is_delimiter(csv.delimiter)
+        && csv.is_apart()
+}
+
+fn is_input(input: Input) -> bool
+    ensures { result ≡ is_input input }
+{
+    match input {
+        Input::Csv(csv) => is_csv_input(csv),
+        Input::JsonLines | Input::Parquet => true,
+    }
+}
+
+fn is_output(output: Output) -> bool
+    ensures { result ≡ is_output output }
+{
+    match output {
+        Output::Csv(csv) => is_csv_output(csv),
+        Output::Json(delimiter) => is_delimiter(delimiter),
+    }
+}
+
+/// Whether it has places up to 2^63 - 1, its start is at most its end, and it has a byte.
+fn is_range(range: ScanRange) -> bool
+    ensures { result ≡ is_range range }
+{
+    match range {
+        ScanRange::Between { start, end } => start <= end && end < 1 << 63,
+        ScanRange::From { start } => start < 1 << 63,
+        ScanRange::Last { count } => 0 < count && count < 1 << 63,
+    }
+}
+
+/// Whether no quoted field may hold a record delimiter.
+fn allows_range(input: Input) -> bool
+    ensures { result ≡ allows_range input }
+{
+    match input {
+        Input::Csv(csv) => !csv.quoted_delimiters,
+        Input::JsonLines | Input::Parquet => true,
+    }
+}
+
+fn is_range_of(input: Input, range: Option<ScanRange>) -> bool
+    ensures { result ≡ is_range_of input range }
+{
+    match range {
+        Some(range) => is_range(range) && allows_range(input),
+        None => true,
+    }
+}
+
+/// Whether a body can hold the expression.
+fn is_expression(text: &str) -> bool
+    ensures { result ≡ is_expression text.now }
+{
+    text.len() <= LONGEST_EXPRESSION && !text.as_bytes().contains(&0)
+}
+
+impl SelectRequest {
+    /// Whether `print` takes the request: its values pass the checks that a body's do, and its expression has at most
+    /// 262,144 bytes and no NUL.
+    #[tactic(auto, unfolding(crate::specs::Printable::is_printable))]
+    pub fn is_printable(&self) -> bool
+        ensures { result ≡ is_printable self.now }
+    {
+        is_expression(self.expression.text())
+            && is_input(self.input)
+            && is_output(self.output)
+            && is_range_of(self.input, self.range)
+    }
+}
