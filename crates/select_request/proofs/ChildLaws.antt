@@ -52,11 +52,11 @@ where_free_so free o c e f = rw (e, f) refl
 
 -- ---- which tag begins which element
 
-or_false : (b : Bool) → (b || false) ≡ true → b ≡ true
+pub or_false : (b : Bool) → (b || false) ≡ true → b ≡ true
 or_false true e = e
 or_false false e = e
 
-and_false : (b : Bool) → (b && false) ≡ false
+pub and_false : (b : Bool) → (b && false) ≡ false
 and_false true = refl
 and_false false = refl
 

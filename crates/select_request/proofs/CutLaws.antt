@@ -37,7 +37,7 @@ cut_text_at at b bs e =
     let z : at + 1 + length (up_to 60 bs) ≡ at + suc (length (up_to 60 bs)) = omega arith in
     cut_cons at b bs ∙ rw (e, z) refl
 
-drop_behind : (pre : List ℕ) (x : ℕ) (rest : List ℕ) → drop (length pre + 1) (pre ++ x ∷ rest) ≡ rest
+pub drop_behind : (pre : List ℕ) (x : ℕ) (rest : List ℕ) → drop (length pre + 1) (pre ++ x ∷ rest) ≡ rest
 drop_behind [] x rest = refl
 drop_behind (p ∷ pre) x rest = let e : suc (length pre) + 1 ≡ suc (length pre + 1) = omega arith in rw e (drop_behind pre x rest)
 

@@ -17,15 +17,7 @@ use Rattle.select_request.specs.Elements.{is_leaf, is_child, same_element}
 use Rattle.select_request.specs.Pieces.{Piece, declaration, start_tag, end_tag, empty_tag, char_data, unfit, Symbol}
 use Rattle.select_request.specs.Grammar.{is_declaration_piece, is_blank_piece, starts_element, ends_element, is_whole_element, characters_of, taken, blanks, start_of, end_of, whole_of, characters, found_alone, leaf, container, joined, children, element_within, request_body}
 use Rattle.select_request.specs.Readers.{behind, behind_blanks, read_token, with_blanks, read_whole, read_characters, read_leaf, read_container, child_begun, read_allowed, read_child, read_free, read_children, read_element, read_body}
-use Rattle.select_request.proofs.ChildLaws.{begins_tag, tells_tag, blank_or_child}
-
-and_false : (b : Bool) → (b && false) ≡ false
-and_false true = refl
-and_false false = refl
-
-or_false : (b : Bool) → (b || false) ≡ true → b ≡ true
-or_false true e = e
-or_false false e = e
+use Rattle.select_request.proofs.ChildLaws.{or_false, and_false, begins_tag, tells_tag, blank_or_child}
 
 -- the lookahead of a symbol that may be there
 abbrev pub maybe_sight : (Symbol → Bool) → Sight Symbol
