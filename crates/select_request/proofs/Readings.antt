@@ -1,13 +1,13 @@
 -- The readers of the pieces read the grammar's rules.
-use Rattle.std.proofs.Common.{◌≡◌, ℕ, zero, suc, ◌&&◌, ◌||◌, Bool, true, false, List, [], ◌∷◌, ◌++◌, Option, Some, None, is_some, unwrap_or, refl, sym, subst, if◌then◌else◌}
-use Rattle.grammar_rules.specs.Rules.{Rule, Verdict, takes, refuses, terminal, token, made, either, optional, followed_by, preceded_by, ◌&◌, one_of_two, allowed, members}
-use Rattle.grammar_rules.specs.Readers.{Outcome, found, failed, and_then, read_made, read_symbol, read_terminal, is_seen, chosen, closed_by, read_before, read_pair, read_either, read_optional, read_members, is_free}
+use Rattle.std.proofs.Common.{◌≡◌, ℕ, zero, suc, ◌&&◌, ◌||◌, Bool, true, false, List, [], ◌∷◌, ◌++◌, Some, None, is_some, unwrap_or, refl, sym, subst, if◌then◌else◌}
+use Rattle.grammar_rules.specs.Rules.{Rule, Verdict, takes, refuses, terminal, token, made, optional, followed_by, preceded_by, ◌&◌, one_of_two, allowed, members}
+use Rattle.grammar_rules.specs.Readers.{Outcome, found, failed, and_then, read_made, read_symbol, read_terminal, is_seen, chosen, closed_by, read_before, read_pair, read_optional, is_free}
 use Rattle.grammar_rules.proofs.Lists.{or_left}
 use Rattle.grammar_rules.proofs.Clear.{Sight}
 use Rattle.grammar_rules.proofs.Sequences.{sequence_sight}
-use Rattle.grammar_rules.proofs.Terminals.{terminal_sight, Sees}
+use Rattle.grammar_rules.proofs.Terminals.{terminal_sight}
 use Rattle.grammar_rules.proofs.Reading.{Reads, token_sight, reads-terminal, reads-token, reads-made, reads-sequence, reads-pair, reads_as, reads_seen, then_sight, reads_then}
-use Rattle.grammar_rules.proofs.Choices.{either_sight, optional_sight, reads-either, reads-optional}
+use Rattle.grammar_rules.proofs.Choices.{optional_sight, reads-either, reads-optional}
 use Rattle.grammar_rules.proofs.Members.{Named, allowed_sight, members_sight}
 use Rattle.grammar_rules.proofs.AnyOrder.{reads-members}
 use Rattle.select_request.specs.declared.element.Element.{Element}
