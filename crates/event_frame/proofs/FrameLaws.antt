@@ -54,6 +54,11 @@ whole_small bytes whole =
     let s : Sizes bytes = sizes bytes whole.prelude.sound in
     omega (arith, s.most, whole.size)
 
+pub headers_small : (bytes headers : List ℕ) → IsWhole bytes → headers ≡ headers_part bytes → length headers ≤ 16777200
+headers_small bytes headers whole is =
+    let size : length headers ≡ length (take (number_at bytes 4) (drop 12 bytes)) = ap length is in
+    omega (arith, whole_fits bytes whole, whole_small bytes whole, length-take (number_at bytes 4) (drop 12 bytes))
+
 -- four bytes are the bytes of their number
 four : (l : List ℕ) → 4 ≤ length l → AreBytes l → to_be_bytes w32 (from_be_bytes w32 l) ≡ take 4 l
 four [] h fits = absurd (omega arith)

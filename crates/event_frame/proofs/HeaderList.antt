@@ -10,7 +10,7 @@ use Rattle.event_frame.specs.Message.{Header, print_header, print_headers}
 use Rattle.event_frame.specs.Event.{header}
 use Rattle.event_frame.specs.Reading.{IsHeader, AreHeaders, value_of}
 use Rattle.event_frame.specs.HeaderFront.{HasNoHeader, SpellsHeader, EndsWell, EndsBadly}
-use Rattle.event_frame.proofs.HeaderLaws.{header-unique, header-shorter}
+use Rattle.event_frame.proofs.HeaderLaws.{header-unique}
 
 -- equal texts are told
 pub bytes_eq-true : (a b : List ℕ) → bytes_eq a b ≡ true → a ≡ b
@@ -79,7 +79,7 @@ place bytes at good =
     let size : length (take at bytes) ≡ length (print_headers good.headers) = ap length good.front in
     omega (arith, length-take at bytes, good.within)
 
-ends_badly : (bytes : List ℕ) (at : ℕ) (good : GoodUpTo bytes at) → at < length bytes
+pub ends_badly : (bytes : List ℕ) (at : ℕ) (good : GoodUpTo bytes at) → at < length bytes
     → ((h : Header) (more : List ℕ) → IsHeader h → value_of h.name good.headers ≡ None → drop at bytes ≢ print_header h ++ more)
     → EndsBadly bytes at
 ends_badly bytes at good inside bad =
@@ -141,14 +141,6 @@ good-more bytes front rest name value after at found good before behind spelled 
     absent : (o : Option (Bor (List ℕ))) → false ≡ is_some o → option_copied o ≡ None
     absent None h = refl
     absent (Some x) h = absurd (cc)
-
--- the next place is behind this one
-pub place-rises : (bytes rest name value after : List ℕ) (at : ℕ) → at < length bytes → rest ≡ drop at bytes → SpellsHeader rest name value after
-    → length bytes - (length bytes - length after) < length bytes - at
-place-rises bytes rest name value after at inside behind spelled =
-    let shorter : length after < length rest = header-shorter rest name value after spelled in
-    let size : length rest ≡ length bytes - at = ap length behind ∙ length-drop at bytes in
-    omega arith
 
 -- different texts are told
 pub bytes_eq-differs : (a b : List ℕ) → false ≡ bytes_eq a b → a ≢ b

@@ -7,8 +7,11 @@ pub mod Entries
 pub mod FrameLaws
 pub mod HeaderLaws
 pub mod HeaderList
+pub mod HeaderRepeats
+pub mod HeaderSort
 pub mod IntakeLaws
 pub mod ReaderLaws
 pub mod Readings
 pub mod RegisterLaws
 pub mod Unique
+pub mod Written

@@ -1,7 +1,7 @@
 -- Bytes spell one list of headers, one event or one fault.
-use Rattle.std.proofs.Common.{◌≡◌, ◌≢◌, ℕ, ◌+◌, ◌-◌, ◌*◌, ◌^◌, ◌<◌, ◌≤◌, zero, suc, map, replicate, not, List, [], ◌∷◌, ◌++◌, length, take, drop, Bool, true, false, cond, Option, None, Some, ◌⊎◌, inl, inr, refl, sym, ap, subst, ◌∙◌, arith, append_assoc, length-append}
+use Rattle.std.proofs.Common.{◌≡◌, ℕ, ◌+◌, ◌-◌, ◌^◌, ◌<◌, ◌≤◌, zero, suc, map, replicate, not, List, [], ◌∷◌, ◌++◌, length, take, Bool, true, false, cond, Option, None, Some, ◌⊎◌, inl, inr, refl, sym, ap, subst, ◌∙◌, arith, append_assoc, length-append}
 use Rattle.std.proofs.Math.Seq.{append_snoc, take-append_seam, drop-append_seam}
-use Rattle.std.proofs.lemmas.List.{append-nil, append_cancel_left, take-append-le}
+use Rattle.std.proofs.lemmas.List.{append-nil, append_cancel_left}
 use Rattle.std.specs.Str.{bytes_eq}
 use Rattle.std.specs.Int.{w32, to_be_bytes}
 use Rattle.std.proofs.lemmas.Nat.{from_be_bytes-to_be_bytes_4}
@@ -10,7 +10,7 @@ use Rattle.std.proofs.Math.Nat.{pow-suc}
 use Rattle.std.proofs.lemmas.List.{length-map}
 use Rattle.event_frame.specs.Message.{Header, print_header, print_headers, message_of, prelude_of, sealed}
 use Rattle.event_frame.specs.Event.{Event, header}
-use Rattle.event_frame.specs.Reading.{IsHeader, AreHeaders, StopsAt, value_of, event_meant, number_at, prelude_fault, longest_frame, HasPrelude, IsBegun, IsWhole, headers_part, payload_part, IsFrame, HasBadCrc, HasBadHeader, HasNoEvent, IsFaulty}
+use Rattle.event_frame.specs.Reading.{IsHeader, AreHeaders, StopsAt, value_of, event_meant, number_at, prelude_fault, longest_frame, IsBegun, IsWhole, IsFrame, HasBadCrc, IsFaulty}
 use Rattle.event_frame.specs.declared.fault.FrameFaultCode.{FrameFaultCode}
 use Rattle.event_frame.specs.declared.fault.FrameFaultCode.TheVariants.{BadPreludeCrc, BadLengths, TooLarge, BadMessageCrc, BadHeader, UnknownEvent}
 use Rattle.event_frame.proofs.HeaderLaws.{header-unique, header-some, same_front}
@@ -20,7 +20,7 @@ use Rattle.std.specs.Option.{unwrap_or}
 use Rattle.event_frame.specs.Stream.{EndsIn, HasFrame, SpellsEvents, IsSameReading}
 use Rattle.event_frame.proofs.FrameLaws.{whole_small}
 use Rattle.event_frame.proofs.IntakeLaws.{number_at-append, prelude_fault-append}
-use Rattle.event_frame.proofs.ReaderLaws.{Parts, message-parts}
+use Rattle.event_frame.proofs.ReaderLaws.{message-parts}
 use Rattle.event_frame.proofs.HeaderList.{first_differs, others_lack, bytes_eq-false}
 
 -- ---- headers
@@ -37,10 +37,7 @@ comes_new (g ∷ pre) h hs are =
     let differs : bytes_eq g.name h.name ≡ false = bytes_eq-false h.name g.name (lacks_member g.name pre h hs are.1) in
     (next.0, ap (λ (b : Bool). cond b (Some g.value) (value_of h.name pre)) differs ∙ next.1)
 
--- good headers end at the end, or where a bad one stands
-Closes : List Header → List ℕ → Type 0
-Closes headers rest = (rest ≡ []) ⊎ StopsAt headers rest
-
+-- no header that can be written and has a new name stands where good headers end
 not_closed : (pre : List Header) (h : Header) (hs : List Header) (rest more : List ℕ) → AreHeaders (pre ++ h ∷ hs) → rest ≡ print_header h ++ more
     → (rest ≡ []) ⊎ StopsAt pre rest → ⊥
 not_closed pre h hs rest more are e (inl none) =

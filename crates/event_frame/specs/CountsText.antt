@@ -53,6 +53,12 @@ progress_of c = progress (counts_text (codes "Progress") c)
 abbrev pub stats_of : Counts → Event
 stats_of c = stats (counts_text (codes "Stats") c)
 
+-- each count fits 128 bits
+pub record CountsFit (c : Counts) : Type 0 where
+  pub scanned : c.scanned < 2 ^ 128
+  pub processed : c.processed < 2 ^ 128
+  pub returned : c.returned < 2 ^ 128
+
 -- the digits spell the number, which fits 128 bits
 pub record IsNumber (digits : List ℕ) (n : ℕ) : Type 0 where
   pub some : 0 < length digits

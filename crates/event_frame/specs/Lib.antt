@@ -3,6 +3,7 @@ pub mod CountsText
 pub mod Crc
 pub mod Event
 pub mod HeaderFront
+pub mod HeaderPlaces
 pub mod Message
 pub mod Reader
 pub mod ReaderView

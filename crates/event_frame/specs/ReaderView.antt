@@ -34,4 +34,5 @@ state_of a = shown a.state a.buffer.items a.taken
 
 pub record IsConsistent (a : Inside) : Type 0 where
   pub room : 16777216 ≤ vec_capacity a.buffer
+  pub places_room : 3355440 ≤ vec_capacity a.places
   pub sound : IsSound (state_of a)

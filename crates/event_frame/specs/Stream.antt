@@ -1,6 +1,6 @@
 -- A stream of frames: the events that its bytes spell, and what stands behind the last whole frame.
-use Rattle.std.specs.Prelude.{◌≡◌, ℕ, List, [], ◌∷◌, ◌++◌, Option, None, Some}
-use Rattle.event_frame.specs.Event.{Event}
+use Rattle.std.specs.Prelude.{◌≡◌, ℕ, ◌≤◌, List, [], ◌∷◌, ◌++◌, length, Option, None, Some, ⊤}
+use Rattle.event_frame.specs.Event.{Event, records, cont, progress, stats, end, error, frame_of}
 use Rattle.event_frame.specs.Reading.{IsBegun, IsFrame, IsFaulty}
 use Rattle.event_frame.specs.declared.fault.FrameFaultCode.{FrameFaultCode}
 
@@ -26,6 +26,25 @@ pub record HasFrame (bytes : List ℕ) (event : Event) (rest : List ℕ) : Type 
 abbrev pub SpellsEvents : List ℕ → List Event → List ℕ → Type 0
 SpellsEvents bytes [] rest = bytes ≡ rest
 SpellsEvents bytes (event ∷ events) rest = (behind : List ℕ) × HasFrame bytes event behind × SpellsEvents behind events rest
+
+-- the parts of an event fit the frame that is written for it: a payload of at most 65,536 bytes, and
+-- 256 bytes of a code and of a message
+abbrev pub PartsFit : Event → Type 0
+PartsFit (records output) = length output ≤ 65536
+PartsFit cont = ⊤
+PartsFit (progress text) = length text ≤ 65536
+PartsFit (stats text) = length text ≤ 65536
+PartsFit end = ⊤
+PartsFit (error code message) = (length code ≤ 256) × (length message ≤ 256)
+
+abbrev pub AllPartsFit : List Event → Type 0
+AllPartsFit [] = ⊤
+AllPartsFit (event ∷ events) = PartsFit event × AllPartsFit events
+
+-- the frames that are written for the events, one after the other
+abbrev pub frames_of : List Event → List ℕ
+frames_of [] = []
+frames_of (event ∷ events) = frame_of event ++ frames_of events
 
 -- the bytes spell the events and end so
 pub record Reads (bytes : List ℕ) (events : List Event) (rest : List ℕ) (fault : Option (FrameFaultCode × ℕ)) : Type 0 where

@@ -1,6 +1,6 @@
 // The checks of a frame that is read, in order, each with its place in the frame.
 
-ghost use Rattle.std.specs.Prelude.{◌≡◌, ℕ, ◌+◌, ◌-◌, ◌≤◌, length, take, drop, IfSome, MatchOption};
+ghost use Rattle.std.specs.Prelude.{◌≡◌, ℕ, ◌+◌, ◌-◌, ◌≤◌, length, take, drop, IfSome, MatchOption, vec_capacity};
 ghost use Rattle.event_frame.specs.Event.{Event};
 ghost use Rattle.event_frame.specs.Reading.{number_at, prelude_fault, headers_part, payload_part, IsWhole, IsFrame, IsFaulty};
 
@@ -46,17 +46,19 @@ pub(crate) fn check_prelude(prelude: &[u8]) -> Option<(FrameFaultCode, u64)>
 }
 
 // What is wrong with a message whose prelude is good.
-pub(crate) fn check_message(frame: &[u8]) -> Option<(FrameFaultCode, u64)>
-    requires { IsWhole frame.now }
+pub(crate) fn check_message(frame: &[u8], places: &mut Vec<u32>) -> Option<(FrameFaultCode, u64)>
+    requires whole { IsWhole frame.now }
+    requires room { 3355440 ≤ vec_capacity places.old }
     ensures fault { MatchOption result ((e : Event) × IsFrame frame.now e) (λ f. IsFaulty frame.now f.0 f.1) }
     ensures place { IfSome result (λ f. f.1 ≤ length frame.now) }
+    ensures room { vec_capacity places.old ≤ vec_capacity places.new }
 {
     let end = frame.len() - 4;
     if number_at(frame, end) != crc32(&frame[..end]) {
         return Some((FrameFaultCode::BadMessageCrc, end as u64));
     }
     let (headers, payload) = parts(frame);
-    if let Some(at) = first_bad(headers) {
+    if let Some(at) = first_bad(headers, places) {
         return Some((FrameFaultCode::BadHeader, (PRELUDE + at) as u64));
     }
     if event(headers, payload).is_none() {

@@ -17,14 +17,16 @@ pub(crate) enum Step {
 }
 
 // Adds a piece to a begun frame, up to the frame's end or to the first fault.
-pub(crate) fn take_in(buffer: &mut Vec<u8>, piece: &[u8]) -> Step
+pub(crate) fn take_in(buffer: &mut Vec<u8>, places: &mut Vec<u32>, piece: &[u8]) -> Step
     requires begun { IsBegun buffer.old.items }
     requires room { 16777216 ≤ vec_capacity buffer.old }
+    requires places_room { 3355440 ≤ vec_capacity places.old }
     ensures steps { Steps buffer.old.items piece.now buffer.new.items result }
     ensures room { vec_capacity buffer.old ≤ vec_capacity buffer.new }
+    ensures places_room { vec_capacity places.old ≤ vec_capacity places.new }
 {
     if buffer.len() >= PRELUDE {
-        return take_message(buffer, piece);
+        return take_message(buffer, places, piece);
     }
     let rest = fill_to(buffer, piece, PRELUDE);
     if buffer.len() < PRELUDE {
@@ -33,23 +35,25 @@ pub(crate) fn take_in(buffer: &mut Vec<u8>, piece: &[u8]) -> Step
     if let Some((code, place)) = check_prelude(buffer) {
         return Step::Faulty(code, place);
     }
-    take_message(buffer, rest)
+    take_message(buffer, places, rest)
 }
 
 // The same behind the prelude.
-fn take_message(buffer: &mut Vec<u8>, piece: &[u8]) -> Step
+fn take_message(buffer: &mut Vec<u8>, places: &mut Vec<u32>, piece: &[u8]) -> Step
     requires prelude { HasPrelude buffer.old.items }
     requires begun { length buffer.old.items < number_at buffer.old.items 0 }
     requires room { 16777216 ≤ vec_capacity buffer.old }
+    requires places_room { 3355440 ≤ vec_capacity places.old }
     ensures steps { Steps buffer.old.items piece.now buffer.new.items result }
     ensures room { vec_capacity buffer.old ≤ vec_capacity buffer.new }
+    ensures places_room { vec_capacity places.old ≤ vec_capacity places.new }
 {
     let total = number_at(buffer, 0) as usize;
     fill_to(buffer, piece, total);
     if buffer.len() < total {
         return Step::Begun;
     }
-    match check_message(buffer) {
+    match check_message(buffer, places) {
         None => Step::Whole,
         Some((code, place)) => Step::Faulty(code, place),
     }

@@ -8,15 +8,17 @@ ghost use Rattle.event_frame.specs.Reader.{fresh_reader, IsSound, Feeds, LendsEv
 use crate::event::{EventView, event};
 use crate::fault::FrameFault;
 use crate::frame::{LONGEST_FRAME, parts};
+use crate::headers::MOST_HEADERS;
 use crate::intake::{Step, take_in};
 use std::alloc::{AllocError, Global};
 use std::marker::Model;
 
-/// Reads events from the bytes of their frames. All of its memory, 16 MiB for the longest frame, is
-/// taken by [`FrameReader::make`].
+/// Reads events from the bytes of their frames. All of its memory, 16 MiB for the longest frame and
+/// 12.8 MiB for the places of its headers, is taken by [`FrameReader::make`].
 #[derive(Drop)]
 pub struct FrameReader {
     buffer: Vec<u8>,
+    places: Vec<u32>,
     taken: u64,
     state: State,
 }
@@ -45,13 +47,15 @@ impl Model for FrameReader {
 impl FrameReader {
     ghost use Rattle.event_frame.specs.contracts.reader.FrameReader.{the_row};
 
-    /// Takes the room for the longest frame.
+    /// Takes the room for the longest frame, and for the places of as many headers as it can have.
     pub fn make(alloc: Global) -> Result<FrameReader, AllocError>
         ensures { IfOk result (λ reader. reader ≡ fresh_reader) }
     {
         let buffer = Vec::with_capacity(alloc, LONGEST_FRAME as usize)?;
+        let places = Vec::with_capacity(alloc, MOST_HEADERS)?;
         Ok(FrameReader {
             buffer,
+            places,
             taken: 0,
             state: State::Reading,
         })
@@ -72,7 +76,7 @@ impl FrameReader {
         }
         self.state = State::Reading;
         let begun = self.buffer.len();
-        let step = take_in(&mut self.buffer, piece);
+        let step = take_in(&mut self.buffer, &mut self.places, piece);
         let count = self.buffer.len() - begun;
         let start = self.taken - begun as u64;
         self.taken += count as u64;

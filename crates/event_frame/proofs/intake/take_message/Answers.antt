@@ -16,8 +16,8 @@ returns-then-len-total-clause-steps c =
     begun_more c.args.buffer.now.items c.args.piece.now c.fill_to.new.buffer.items c.number_at-total.result c.requires.prelude c.requires.begun
     total c.fill_to.ensures.bytes (omega (arith, c.if-len-total.true, c.len.ensures))
 
-pub check_message-requires : goal.check_message-requires
-check_message-requires c =
+pub check_message-requires-clause-whole : goal.check_message-requires-clause-whole
+check_message-requires-clause-whole c =
     let total : c.number_at-total.result ≡ number_at c.args.buffer.now.items 0 =
     c.number_at-total.ensures ∙ ap (λ (l : List ℕ). number_at l 0) c.deref.ensures.value in
     subst IsWhole (sym c.deref-2.ensures.value)
