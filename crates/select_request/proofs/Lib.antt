@@ -20,4 +20,5 @@ pub mod Resolved
 pub mod TableLaws
 pub mod TextLaws
 pub mod Trees
+pub mod ValidRequests
 pub mod WholeNumber

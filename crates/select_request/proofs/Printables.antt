@@ -1,6 +1,6 @@
 -- What a printable request has.
 use Rattle.std.specs.Prelude.{◌≡◌, Bool, true, false, ◌&&◌, refl}
-use Rattle.select_request.specs.Printable.{is_expression, is_input, is_output, is_range_of, is_printable}
+use Rattle.select_request.specs.Printable.{is_expression, is_input, is_output, is_range_of, is_valid, is_printable}
 use Rattle.select_request.specs.declared.request.SelectRequest.{SelectRequest}
 
 pub and_left : (a b : Bool) → (a && b) ≡ true → a ≡ true
@@ -19,12 +19,12 @@ pub record Printable (request : SelectRequest) : Type 0 where
   pub range : is_range_of request.input request.range ≡ true
 
 pub printable : (request : SelectRequest) → is_printable request ≡ true → Printable request
-unfolding is_printable
+unfolding is_printable is_valid
 printable request h =
     let e = is_expression request.expression in
     let i = is_input request.input in
     let o = is_output request.output in
     let r = is_range_of request.input request.range in
-    let three = and_left (e && i && o) r h in
-    let two = and_left (e && i) o three in
-    record { expression = and_left e i two; input = and_right e i two; output = and_right (e && i) o three; range = and_right (e && i && o) r h }
+    let valid = and_right e (i && o && r) h in
+    let formats = and_left (i && o) r valid in
+    record { expression = and_left e (i && o && r) h; input = and_left i o formats; output = and_right i o formats; range = and_right (i && o) r valid }

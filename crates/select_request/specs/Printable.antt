@@ -60,6 +60,10 @@ abbrev pub is_range_of : Input → Option ScanRange → Bool
 is_range_of input None = true
 is_range_of input (Some range) = is_range range && allows_range input
 
+-- its values pass the checks that a body's do
+unfoldable pub is_valid : SelectRequest → Bool
+is_valid request = is_input request.input && is_output request.output && is_range_of request.input request.range
+
 -- the longest expression that is printed
 abbrev pub longest_expression : ℕ
 longest_expression = 262144
@@ -69,6 +73,4 @@ abbrev pub is_expression : List ℕ → Bool
 is_expression bytes = nat_le (length bytes) longest_expression && not (list_any (λ b. b == 0) bytes)
 
 unfoldable pub is_printable : SelectRequest → Bool
-is_printable request =
-    is_expression request.expression && is_input request.input && is_output request.output
-    && is_range_of request.input request.range
+is_printable request = is_expression request.expression && is_valid request

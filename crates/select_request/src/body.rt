@@ -1,9 +1,10 @@
 //! A request body is read.
-ghost use Rattle.std.specs.Prelude.{◌≡◌, ◌<◌, MatchResult};
+ghost use Rattle.std.specs.Prelude.{◌≡◌, IfOk, IsTrue};
 ghost use Rattle.select_request.specs.declared.fault.RequestFaultCode.TheVariants.{MalformedXML};
 ghost use Rattle.select_request.specs.declared.fault.RequestFault.{RequestFault};
 ghost use Rattle.select_request.specs.declared.request.SelectRequest.{SelectRequest};
 ghost use Rattle.select_request.specs.declared.fault.ReadError.TheVariants.{Refused};
+ghost use Rattle.select_request.specs.Printable.{is_valid};
 ghost use Rattle.select_request.specs.Reading.{longest_body, SpellsRequest, HasFault, Reads, Gives, Refuses};
 
 use crate::elements::{ElementsError, elements};
@@ -28,6 +29,7 @@ fn malformed(at: usize) -> RequestFault
 /// Reads a request body, the XML of Amazon S3's `SelectObjectContentRequest`.
 pub fn read(alloc: Global, body: &[u8]) -> Result<SelectRequest, ReadError>
     ensures reads { Reads body.now result }
+    ensures valid { IfOk result (λ request. IsTrue (is_valid request)) }
 
     // A request that the body spells is the answer, and so is a fault that it has, but for want of memory.
     ensures request { (request : SelectRequest) → SpellsRequest body.now request → Gives request result }

@@ -1,7 +1,7 @@
 //! The values that pass the checks that a body's do.
 ghost use Rattle.std.specs.Prelude.{◌≡◌, is_some};
 ghost use Rattle.select_request.specs.Values.{is_character};
-ghost use Rattle.select_request.specs.Printable.{is_delimiter, is_one, is_csv_input, is_csv_output, is_input, is_output, is_range, allows_range, is_range_of, is_expression, is_printable};
+ghost use Rattle.select_request.specs.Printable.{is_delimiter, is_one, is_csv_input, is_csv_output, is_input, is_output, is_range, allows_range, is_range_of, is_expression, is_valid, is_printable};
 
 use crate::request::{CsvInput, CsvOutput, Delimiter, Input, Output, ScanRange, SelectRequest};
 use crate::values::is_character;
@@ -107,15 +107,19 @@ fn is_expression(text: &str) -> bool
 }
 
 impl SelectRequest {
-    /// Whether `print` takes the request: its values pass the checks that a body's do, and its expression has at most
-    /// 262,144 bytes and no NUL.
+    /// Whether its values pass the checks that a body's do, as those of each request that was read do.
+    #[tactic(auto, unfolding(crate::specs::Printable::is_valid))]
+    pub fn is_valid(&self) -> bool
+        ensures { result ≡ is_valid self.now }
+    {
+        is_input(self.input) && is_output(self.output) && is_range_of(self.input, self.range)
+    }
+
+    /// Whether `print` takes the request: it is valid, and its expression has at most 262,144 bytes and no NUL.
     #[tactic(auto, unfolding(crate::specs::Printable::is_printable))]
     pub fn is_printable(&self) -> bool
         ensures { result ≡ is_printable self.now }
     {
-        is_expression(self.expression.text())
-            && is_input(self.input)
-            && is_output(self.output)
-            && is_range_of(self.input, self.range)
+        is_expression(self.expression.text()) && self.is_valid()
     }
 }
