@@ -1,7 +1,7 @@
 -- What the readers' outcome says of a body, in the grammar's words.
-use Rattle.std.proofs.Common.{◌≡◌, ℕ, suc, ◌+◌, ◌-◌, List, [], ◌∷◌, ◌++◌, length, drop, Some, None, Err, refl, sym, ap, ◌∙◌, subst, arith, length-append, eq-eqb, eqb-true, Bool, true, false, ◌==◌}
+use Rattle.std.proofs.Common.{◌≡◌, ℕ, suc, ◌-◌, List, [], ◌∷◌, ◌++◌, length, drop, None, Err, refl, sym, ap, ◌∙◌, subst, arith, length-append, eq-eqb, eqb-true, Bool, true, false, ◌==◌}
 use Rattle.grammar_rules.specs.Readers.{Outcome, found, failed, answer}
-use Rattle.grammar_rules.specs.Places.{RefusedThere, value, refusal, Answers}
+use Rattle.grammar_rules.specs.Places.{value, refusal, Answers}
 use Rattle.grammar_rules.proofs.Right.{Right}
 use Rattle.grammar_rules.proofs.Answering.{answers}
 use Rattle.grammar_rules.proofs.OneAnswer.{one_answer}

@@ -1,5 +1,5 @@
 -- The element that a piece begins in another, and whether it is free.
-use Rattle.std.proofs.Common.{◌≡◌, ℕ, ◌&&◌, ◌||◌, not, Bool, true, false, List, [], ◌∷◌, Option, Some, None, is_some, slice_index_or, length, refl, sym, ap, ◌∙◌, subst, arith, eq-eqb, ◌<◌, ◌≢◌}
+use Rattle.std.proofs.Common.{◌≡◌, ℕ, ◌&&◌, ◌||◌, not, Bool, true, false, List, [], ◌∷◌, Option, Some, None, is_some, slice_index_or, length, refl, sym, ap, ◌∙◌, arith, eq-eqb, ◌≢◌}
 use mathlib.Core.Path.{fun_ext}
 use Rattle.std.proofs.Math.ListN.{set}
 use Rattle.std.proofs.lemmas.List.{get_or-set_other}
@@ -52,11 +52,11 @@ where_free_so free o c e f = rw (e, f) refl
 
 -- ---- which tag begins which element
 
-or_false : (b : Bool) → (b || false) ≡ true → b ≡ true
+pub or_false : (b : Bool) → (b || false) ≡ true → b ≡ true
 or_false true e = e
 or_false false e = e
 
-and_false : (b : Bool) → (b && false) ≡ false
+pub and_false : (b : Bool) → (b && false) ≡ false
 and_false true = refl
 and_false false = refl
 

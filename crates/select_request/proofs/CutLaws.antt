@@ -1,7 +1,7 @@
 -- Cutting goes piece by piece.
-use Rattle.std.proofs.Common.{◌≡◌, ℕ, zero, suc, ◌+◌, ◌==◌, ◌||◌, Bool, true, false, List, [], ◌∷◌, ◌++◌, length, take, drop, refl, sym, ap, ◌∙◌, arith, eqb-true, if◌then◌else◌}
-use Rattle.select_request.specs.Pieces.{Piece, char_data, unfit, Symbol, has, up_to, tag, piece_from, further, cut_behind, cut}
-use Rattle.select_request.proofs.ByteLaws.{up_to_front, has_front, up_to_whole}
+use Rattle.std.proofs.Common.{◌≡◌, ℕ, zero, suc, ◌+◌, ◌==◌, ◌||◌, Bool, true, false, List, [], ◌∷◌, ◌++◌, length, drop, refl, ap, ◌∙◌, arith, eqb-true}
+use Rattle.select_request.specs.Pieces.{char_data, unfit, has, up_to, tag, piece_from, further, cut_behind, cut}
+use Rattle.select_request.proofs.ByteLaws.{up_to_front, has_front}
 
 cut_skips : (k at : ℕ) (bs : List ℕ) → cut_behind k at bs ≡ cut_behind 0 (at + k) (drop k bs)
 cut_skips zero at bs = let e : at + 0 ≡ at = omega arith in rw e refl
@@ -37,7 +37,7 @@ cut_text_at at b bs e =
     let z : at + 1 + length (up_to 60 bs) ≡ at + suc (length (up_to 60 bs)) = omega arith in
     cut_cons at b bs ∙ rw (e, z) refl
 
-drop_behind : (pre : List ℕ) (x : ℕ) (rest : List ℕ) → drop (length pre + 1) (pre ++ x ∷ rest) ≡ rest
+pub drop_behind : (pre : List ℕ) (x : ℕ) (rest : List ℕ) → drop (length pre + 1) (pre ++ x ∷ rest) ≡ rest
 drop_behind [] x rest = refl
 drop_behind (p ∷ pre) x rest = let e : suc (length pre) + 1 ≡ suc (length pre + 1) = omega arith in rw e (drop_behind pre x rest)
 

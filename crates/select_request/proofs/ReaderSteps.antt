@@ -1,7 +1,7 @@
 -- The readers' steps, as the code takes them.
-use Rattle.std.proofs.Common.{◌≡◌, ℕ, zero, suc, ◌+◌, ◌-◌, ◌<◌, ◌≤◌, ◌&&◌, not, Bool, true, false, List, [], ◌∷◌, ◌++◌, length, drop, Option, Some, None, Result, Ok, Err, MatchResult, refl, sym, ap, ◌∙◌, subst, arith, append_assoc, append-nil, if◌then◌else◌}
+use Rattle.std.proofs.Common.{◌≡◌, ℕ, zero, suc, ◌<◌, ◌≤◌, Bool, true, false, List, [], ◌∷◌, ◌++◌, length, drop, Option, Some, None, Result, Ok, Err, MatchResult, refl, sym, ap, ◌∙◌, subst, arith, append_assoc, append-nil, if◌then◌else◌}
 use Rattle.grammar_rules.specs.Rules.{without, allowed, followed_by}
-use Rattle.grammar_rules.specs.Readers.{Outcome, found, failed, and_then, read_made, starts, chosen, closed_by, is_free, read_member, read_members}
+use Rattle.grammar_rules.specs.Readers.{Outcome, found, failed, and_then, read_made, starts, chosen, closed_by, is_free, read_member}
 use Rattle.grammar_rules.proofs.Many.{Shrinks, shrinks}
 use Rattle.grammar_rules.proofs.AnyOrder.{less_member, read_members-unrolled}
 use Rattle.select_request.specs.declared.element.Element.{Element}
@@ -9,13 +9,13 @@ use Rattle.select_request.specs.declared.element.Element.TheVariants.{Request}
 use Rattle.select_request.specs.declared.found.Found.{Found}
 use Rattle.select_request.specs.declared.elements.Failure.{Failure}
 use Rattle.select_request.specs.declared.elements.Failure.TheVariants.{Refused, Memory}
-use Rattle.select_request.specs.Elements.{is_leaf, is_child, same_element, number_of}
+use Rattle.select_request.specs.Elements.{is_leaf, is_child, same_element}
 use Rattle.select_request.specs.Pieces.{Symbol, first_place}
-use Rattle.select_request.specs.Grammar.{is_declaration_piece, is_blank_piece, starts_element, ends_element, is_whole_element, blanks, found_alone, joined, element_within}
-use Rattle.select_request.specs.Readers.{behind, behind_blanks, with_blanks, read_whole, read_characters, read_leaf, read_container, child_begun, read_allowed, read_child, read_free, read_children, read_element, read_body, onto, Gives, Closes, FailsToClose}
+use Rattle.select_request.specs.Grammar.{is_declaration_piece, starts_element, ends_element, is_whole_element, blanks, found_alone, joined, element_within}
+use Rattle.select_request.specs.Readers.{behind, behind_blanks, with_blanks, read_whole, read_characters, read_leaf, read_container, child_begun, read_child, read_free, read_children, read_element, read_body, onto, Gives, Closes, FailsToClose}
 use Rattle.select_request.specs.Taken.{first_child, where_free}
 use Rattle.select_request.proofs.ChildLaws.{tells_tag}
-use Rattle.select_request.proofs.Readings.{tag_sight, child_sight, each_sight, is_tail, named_children, reads-child, reads-element}
+use Rattle.select_request.proofs.Readings.{tag_sight, each_sight, is_tail, named_children, reads-child, reads-element}
 
 pub behind_there : (test : Symbol → Bool) (ss : List Symbol) → starts test ss ≡ true → behind test ss ≡ drop 1 ss
 behind_there test [] e = refl

@@ -1,13 +1,13 @@
 -- The readers of the pieces read the grammar's rules.
-use Rattle.std.proofs.Common.{◌≡◌, ℕ, zero, suc, ◌&&◌, ◌||◌, Bool, true, false, List, [], ◌∷◌, ◌++◌, Option, Some, None, is_some, unwrap_or, refl, sym, subst, if◌then◌else◌}
-use Rattle.grammar_rules.specs.Rules.{Rule, Verdict, takes, refuses, terminal, token, made, either, optional, followed_by, preceded_by, ◌&◌, one_of_two, allowed, members}
-use Rattle.grammar_rules.specs.Readers.{Outcome, found, failed, and_then, read_made, read_symbol, read_terminal, is_seen, chosen, closed_by, read_before, read_pair, read_either, read_optional, read_members, is_free}
+use Rattle.std.proofs.Common.{◌≡◌, ℕ, zero, suc, ◌&&◌, ◌||◌, Bool, true, false, List, [], ◌∷◌, ◌++◌, Some, None, is_some, unwrap_or, refl, sym, subst, if◌then◌else◌}
+use Rattle.grammar_rules.specs.Rules.{Rule, Verdict, takes, refuses, terminal, token, made, optional, followed_by, preceded_by, ◌&◌, one_of_two, allowed, members}
+use Rattle.grammar_rules.specs.Readers.{Outcome, found, failed, and_then, read_made, read_symbol, read_terminal, is_seen, chosen, closed_by, read_before, read_pair, read_optional, is_free}
 use Rattle.grammar_rules.proofs.Lists.{or_left}
 use Rattle.grammar_rules.proofs.Clear.{Sight}
 use Rattle.grammar_rules.proofs.Sequences.{sequence_sight}
-use Rattle.grammar_rules.proofs.Terminals.{terminal_sight, Sees}
+use Rattle.grammar_rules.proofs.Terminals.{terminal_sight}
 use Rattle.grammar_rules.proofs.Reading.{Reads, token_sight, reads-terminal, reads-token, reads-made, reads-sequence, reads-pair, reads_as, reads_seen, then_sight, reads_then}
-use Rattle.grammar_rules.proofs.Choices.{either_sight, optional_sight, reads-either, reads-optional}
+use Rattle.grammar_rules.proofs.Choices.{optional_sight, reads-either, reads-optional}
 use Rattle.grammar_rules.proofs.Members.{Named, allowed_sight, members_sight}
 use Rattle.grammar_rules.proofs.AnyOrder.{reads-members}
 use Rattle.select_request.specs.declared.element.Element.{Element}
@@ -17,15 +17,7 @@ use Rattle.select_request.specs.Elements.{is_leaf, is_child, same_element}
 use Rattle.select_request.specs.Pieces.{Piece, declaration, start_tag, end_tag, empty_tag, char_data, unfit, Symbol}
 use Rattle.select_request.specs.Grammar.{is_declaration_piece, is_blank_piece, starts_element, ends_element, is_whole_element, characters_of, taken, blanks, start_of, end_of, whole_of, characters, found_alone, leaf, container, joined, children, element_within, request_body}
 use Rattle.select_request.specs.Readers.{behind, behind_blanks, read_token, with_blanks, read_whole, read_characters, read_leaf, read_container, child_begun, read_allowed, read_child, read_free, read_children, read_element, read_body}
-use Rattle.select_request.proofs.ChildLaws.{begins_tag, tells_tag, blank_or_child}
-
-and_false : (b : Bool) → (b && false) ≡ false
-and_false true = refl
-and_false false = refl
-
-or_false : (b : Bool) → (b || false) ≡ true → b ≡ true
-or_false true e = e
-or_false false e = e
+use Rattle.select_request.proofs.ChildLaws.{or_false, and_false, begins_tag, tells_tag, blank_or_child}
 
 -- the lookahead of a symbol that may be there
 abbrev pub maybe_sight : (Symbol → Bool) → Sight Symbol

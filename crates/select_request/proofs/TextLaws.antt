@@ -1,5 +1,5 @@
 -- A text's references are resolved from the left.
-use Rattle.std.proofs.Common.{◌≡◌, ℕ, zero, suc, ◌+◌, ◌*◌, ◌^◌, ◌<◌, ◌≤◌, ◌==◌, ◌&&◌, ◌||◌, not, Bool, true, false, List, [], ◌∷◌, ◌++◌, length, take, drop, Option, Some, None, MatchOption, option_map, Bor, refl, sym, ap, ◌∙◌, subst, arith, append_assoc, append-nil, length-append, if◌then◌else◌}
+use Rattle.std.proofs.Common.{◌≡◌, ℕ, zero, suc, ◌+◌, ◌*◌, ◌^◌, ◌<◌, ◌≤◌, ◌==◌, ◌||◌, not, Bool, true, false, List, [], ◌∷◌, ◌++◌, length, take, drop, Option, Some, None, MatchOption, option_map, Bor, refl, sym, ap, ◌∙◌, subst, arith, append_assoc, append-nil, length-append, if◌then◌else◌}
 use Rattle.std.proofs.lemmas.Bool.Decides.{nat_tests}
 use Rattle.std.specs.Prelude.{encode_utf8, nat_lt}
 use Rattle.std.specs.Char.{digit_value}
@@ -10,7 +10,8 @@ use Rattle.std.specs.List.{position_or_len, before_first, after_first}
 use Rattle.std.proofs.lemmas.Str.Pattern.{split_once_first, IsSplitOnceResult}
 use Rattle.select_request.specs.Pieces.{has, up_to}
 use Rattle.select_request.specs.Sights.{Splits}
-use Rattle.select_request.specs.TextValue.{number_after, is_character, if_character, reference_in, referred, then_resolved, resolved_behind, resolved, text_value}
+use Rattle.select_request.specs.TextValue.{number_after, is_character, if_character, referred, then_resolved, resolved_behind, resolved}
+use Rattle.select_request.proofs.CutLaws.{drop_behind}
 use Rattle.select_request.proofs.ByteLaws.{up_to_front, has_front, whole_has, part_has, take_up_to}
 
 resolved_skips : (k : ℕ) (bs : List ℕ) → resolved_behind k bs ≡ resolved_behind 0 (drop k bs)
@@ -37,10 +38,6 @@ resolved_plain [] rest e = map_none (resolved_behind 0 rest)
 resolved_plain (b ∷ pre) rest e =
     let w = or_both (b == 38) (has 38 pre) e in
     rw w.0 (ap (option_map (λ more. b ∷ more)) (resolved_plain pre rest w.1) ∙ map_map b pre (resolved_behind 0 rest))
-
-drop_behind : (pre : List ℕ) (x : ℕ) (rest : List ℕ) → drop (length pre + 1) (pre ++ x ∷ rest) ≡ rest
-drop_behind [] x rest = refl
-drop_behind (p ∷ pre) x rest = let e : suc (length pre) + 1 ≡ suc (length pre + 1) = omega arith in rw e (drop_behind pre x rest)
 
 -- a reference, and what follows it
 pub resolved_reference : (name rest : List ℕ) → has 59 name ≡ false → resolved (38 ∷ (name ++ 59 ∷ rest)) ≡ then_resolved (referred name) (resolved rest)

@@ -1,5 +1,5 @@
 -- Readers of a body's pieces, which mirror the grammar's rules one by one.
-use Rattle.std.specs.Prelude.{◌≡◌, ℕ, zero, suc, Bool, true, false, List, [], ◌∷◌, ◌++◌, drop, Option, Some, None, Result, Ok, Err, unwrap_or, if◌then◌else◌}
+use Rattle.std.specs.Prelude.{◌≡◌, ℕ, zero, suc, Bool, true, false, List, [], ◌∷◌, ◌++◌, drop, Option, None, Result, Ok, Err, unwrap_or, if◌then◌else◌}
 use Rattle.grammar_rules.specs.Rules.{takes, refuses}
 use Rattle.grammar_rules.specs.Readers.{Outcome, found, failed, and_then, read_made, read_terminal, is_seen, starts, chosen, read_before, read_pair, read_either, read_optional, read_members}
 use Rattle.select_request.specs.declared.element.Element.{Element}
@@ -7,7 +7,7 @@ use Rattle.select_request.specs.declared.element.Element.TheVariants.{Request}
 use Rattle.select_request.specs.declared.found.Found.{Found}
 use Rattle.select_request.specs.declared.elements.Failure.{Failure}
 use Rattle.select_request.specs.declared.elements.Failure.TheVariants.{Refused, Memory}
-use Rattle.select_request.specs.Elements.{is_leaf, is_child, same_element, number_of, child_named}
+use Rattle.select_request.specs.Elements.{is_leaf, is_child, same_element, child_named}
 use Rattle.select_request.specs.Pieces.{Piece, declaration, start_tag, end_tag, empty_tag, char_data, unfit, Symbol}
 use Rattle.select_request.specs.Grammar.{is_declaration_piece, is_blank_piece, starts_element, ends_element, is_whole_element, characters_of, taken, found_alone, joined}
 

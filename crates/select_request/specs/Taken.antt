@@ -1,5 +1,5 @@
 -- The elements of a container that are still free.
-use Rattle.std.specs.Prelude.{ℕ, Bool, not, List, [], ◌∷◌, Option, Some, None, slice_index_or, if◌then◌else◌}
+use Rattle.std.specs.Prelude.{Bool, not, List, [], ◌∷◌, Option, Some, None, slice_index_or, if◌then◌else◌}
 use Rattle.select_request.specs.declared.element.Element.{Element}
 use Rattle.select_request.specs.Elements.{number_of}
 use Rattle.select_request.specs.Pieces.{Symbol}

@@ -19,7 +19,7 @@ use std::alloc::{AllocError, Global};
 const DEPTH: u32 = 3;
 
 /// A body's elements can't be told.
-#[derive(Debug, Drop)]
+#[derive(Drop)]
 pub(crate) enum ElementsError {
     /// The body is none by its grammar: the place of the first piece that can't stand there, or the body's length.
     Malformed(usize),
@@ -27,7 +27,7 @@ pub(crate) enum ElementsError {
 }
 
 /// Why a part isn't read, at the piece where the cursor is left.
-#[derive(Debug, Drop)]
+#[derive(Drop)]
 pub(crate) enum Failure {
     Refused,
     Memory,

@@ -17,7 +17,7 @@ const NAMESPACE: &[u8] = b"xmlns=\"http://s3.amazonaws.com/doc/2006-03-01/\"";
 const NAMESPACE_IN_SINGLE_QUOTES: &[u8] = b"xmlns='http://s3.amazonaws.com/doc/2006-03-01/'";
 
 /// A piece: a tag by its name, or what stands between two tags.
-#[derive(Clone, Copy, Debug)]
+#[derive(Clone, Copy)]
 pub(crate) enum Piece<'b> {
     Declaration,
     Start(&'b [u8]),
@@ -206,7 +206,7 @@ impl<'b> PieceCursor<'b> {
 }
 
 /// How many bytes stand before the first such byte, or how many there are.
-pub(crate) fn length_before(byte: u8, bytes: &[u8]) -> usize
+fn length_before(byte: u8, bytes: &[u8]) -> usize
     ensures { result ≡ length (up_to byte bytes.now) }
 {
     match memchr(byte, bytes) {

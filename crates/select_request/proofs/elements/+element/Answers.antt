@@ -1,16 +1,14 @@
 -- The functions on elements follow their readers.
-use Rattle.std.proofs.Common.{◌≡◌, ◌+◌, ◌-◌, ◌<◌, ◌≤◌, ◌++◌, ◌∙◌, suc, [], Err, sym, ap, refl, arith, length, drop}
+use Rattle.std.proofs.Common.{◌≡◌, ◌-◌, ◌++◌, ◌∙◌, suc, [], sym, ap, refl, arith, drop}
 use Rattle.std.proofs.lemmas.Result.{err_from_is_err_and}
 use Rattle.std.proofs.lemmas.List.{length-set}
-use Rattle.grammar_rules.specs.Rules.{without}
-use Rattle.grammar_rules.specs.Readers.{and_then, closed_by}
-use Rattle.select_request.specs.Elements.{same_element}
+use Rattle.grammar_rules.specs.Readers.{closed_by}
 use Rattle.select_request.specs.Pieces.{first_place}
 use Rattle.select_request.specs.Grammar.{is_blank_piece, ends_element, found_alone}
-use Rattle.select_request.specs.Readers.{behind_blanks, read_container, read_children, read_element, onto, Gives}
+use Rattle.select_request.specs.Readers.{behind_blanks, read_container, read_children, read_element, onto}
 use Rattle.select_request.specs.Taken.{free_of, first_child}
 use Rattle.select_request.proofs.ChildLaws.{all_are_free, free_marked}
-use Rattle.select_request.proofs.ReaderSteps.{children_left, children_begin, children_step, children_fail, children_stop, free_child, element_passes, behind_shorter, fails_on, close_gives, container_whole, container_refused, container_opened, onto_closed, onto_failed, element_leaf, element_zero, element_other}
+use Rattle.select_request.proofs.ReaderSteps.{children_begin, children_step, children_fail, children_stop, free_child, element_passes, behind_shorter, fails_on, close_gives, container_whole, container_refused, container_opened, onto_closed, onto_failed, element_leaf, element_zero, element_other}
 use Rattle.select_request.proofs.elements.+element.Goals as goal
 
 pub children-children-init : goal.children-children-init

@@ -1,5 +1,5 @@
 -- What the loop over the children has read, and that the descent ends.
-use Rattle.std.proofs.Common.{◌≡◌, ◌+◌, ◌*◌, ◌≤◌, length}
+use Rattle.std.proofs.Common.{◌≡◌, ◌+◌, ◌*◌, length}
 use Rattle.select_request.specs.Readers.{read_children, read_element, onto}
 use Rattle.select_request.specs.Taken.{free_of}
 use Rattle.select_request.proofs.ReaderSteps.{children_left}

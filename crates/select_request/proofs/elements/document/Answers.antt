@@ -1,9 +1,8 @@
 -- The root stands behind a declaration and blanks, and blanks behind it.
-use Rattle.std.proofs.Common.{◌≡◌, ◌∙◌, sym, ap, refl}
+use Rattle.std.proofs.Common.{◌∙◌, ap}
 use Rattle.std.proofs.lemmas.Result.{err_from_is_err_and}
 use Rattle.select_request.specs.declared.element.Element.TheVariants.{Request}
-use Rattle.select_request.specs.Grammar.{is_declaration_piece}
-use Rattle.select_request.specs.Readers.{behind, behind_blanks, read_element, read_body, onto}
+use Rattle.select_request.specs.Readers.{behind_blanks, read_element, read_body, onto}
 use Rattle.select_request.proofs.ReaderSteps.{fails_on, document_reads, document_fails}
 use Rattle.select_request.proofs.elements.document.Goals as goal
 

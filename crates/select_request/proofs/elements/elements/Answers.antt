@@ -1,7 +1,6 @@
 -- The outcome of the whole body is its answer.
-use Rattle.std.proofs.Common.{◌≡◌, ◌∙◌, [], length, sym, ap, refl}
-use Rattle.select_request.specs.Pieces.{first_place, symbols_of}
-use Rattle.select_request.specs.Body.{HasElements, IsMalformed}
+use Rattle.std.proofs.Common.{◌∙◌, length}
+use Rattle.select_request.specs.Pieces.{first_place}
 use Rattle.select_request.proofs.BodyAnswers.{body_read, body_goes_on, failure_sound, failure_spelled, failure_refused, one_list, not_both, one_place, none_left, some_left}
 use Rattle.select_request.proofs.elements.elements.Goals as goal
 

@@ -1,6 +1,6 @@
 -- The exits of a leaf.
-use Rattle.std.proofs.Common.{◌≡◌, ◌∙◌, ◌++◌, ◌∷◌, [], sym, ap, refl, drop}
-use Rattle.select_request.specs.Readers.{onto, read_characters, read_leaf}
+use Rattle.std.proofs.Common.{◌∙◌, sym, ap, refl}
+use Rattle.select_request.specs.Readers.{onto, read_leaf}
 use Rattle.select_request.proofs.ReaderSteps.{leaf_whole, leaf_refused, leaf_reads, leaf_unclosed, pushed_gives}
 use Rattle.select_request.proofs.elements.leaf.Goals as goal
 

@@ -1,5 +1,5 @@
 -- The child in sight is taken, or it is free.
-use Rattle.std.proofs.Common.{◌≡◌, ◌∙◌, sym, ap, not}
+use Rattle.std.proofs.Common.{◌∙◌, sym, ap, not}
 use Rattle.select_request.specs.Taken.{free_of, first_child}
 use Rattle.select_request.proofs.ChildLaws.{child_in_sight, free_is, where_free_not, where_free_so}
 use Rattle.select_request.proofs.elements.next_child.Goals as goal

@@ -1,5 +1,5 @@
 -- A last byte that is blank is passed, and another ends the loop.
-use Rattle.std.proofs.Common.{◌≡◌, ◌∙◌, sym}
+use Rattle.std.proofs.Common.{◌∙◌, sym}
 use Rattle.select_request.proofs.ByteLaws.{last_blank, last_kept}
 use Rattle.select_request.proofs.pieces.without_last_blanks.Goals as goal
 

@@ -1,5 +1,5 @@
 -- There is room for each digit.
-use Rattle.std.proofs.Common.{◌≡◌, ◌+◌, ◌*◌, ◌^◌, ◌<◌, ◌≤◌, ◌∙◌, length, ap, arith, refl, w32, rules}
+use Rattle.std.proofs.Common.{◌+◌, ◌*◌, ◌<◌, ◌∙◌, length, ap, arith, refl, w32}
 use Rattle.std.proofs.Math.Facts.{Fits-of_lt}
 use Rattle.std.specs.Char.{digit_value}
 use Rattle.select_request.proofs.TextLaws.{few_digits, digit_room, digit_goes_on, digits_fit}

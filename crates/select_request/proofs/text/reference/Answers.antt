@@ -1,6 +1,6 @@
 -- The name ends at the first `;`.
-use Rattle.std.proofs.Common.{◌≡◌, ◌∙◌, ◌<◌, sym, ap, arith, None, Some}
-use Rattle.select_request.specs.TextValue.{referred, then_resolved, resolved}
+use Rattle.std.proofs.Common.{◌∙◌, ap, None, Some}
+use Rattle.select_request.specs.TextValue.{referred}
 use Rattle.select_request.proofs.TextLaws.{reference_none, reference_some, shorter_behind}
 use Rattle.select_request.proofs.text.reference.Goals as goal
 

@@ -1,5 +1,5 @@
 -- One more reference is resolved, or one is wrong, or none is left.
-use Rattle.std.proofs.Common.{◌≡◌, ◌∙◌, ◌++◌, sym, rules}
+use Rattle.std.proofs.Common.{◌∙◌, sym, rules}
 use Rattle.std.specs.Prelude.{string_bytes}
 use Rattle.select_request.proofs.TextLaws.{resolved_step, resolved_fails, resolved_ends}
 use Rattle.select_request.proofs.text.resolve.Goals as goal

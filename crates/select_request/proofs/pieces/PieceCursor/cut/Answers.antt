@@ -1,6 +1,5 @@
 -- The first piece.
-use Rattle.std.proofs.Common.{◌≡◌, ◌+◌, ◌∷◌, ◌∙◌, length, take, drop, sym, ap, arith, refl}
-use Rattle.select_request.specs.Pieces.{up_to, cut, char_data}
+use Rattle.std.proofs.Common.{◌∙◌, take, sym, ap}
 use Rattle.select_request.proofs.ByteLaws.{up_to_within, take_up_to}
 use Rattle.select_request.proofs.CutLaws.{cut_no_bytes, cut_text_of}
 use Rattle.select_request.proofs.pieces.PieceCursor.cut.Goals as goal

@@ -1,6 +1,5 @@
 -- The first piece at a `<`.
-use Rattle.std.proofs.Common.{◌≡◌, ◌+◌, ◌∷◌, ◌∙◌, length, take, drop, sym, ap, arith, refl}
-use Rattle.select_request.specs.Pieces.{up_to, cut, tag}
+use Rattle.std.proofs.Common.{◌∙◌, take, sym, ap}
 use Rattle.select_request.proofs.ByteLaws.{whole_has, part_has, up_to_within, take_up_to}
 use Rattle.select_request.proofs.CutLaws.{cut_unfit, cut_tag_at}
 use Rattle.select_request.proofs.pieces.PieceCursor.cut_tag.Goals as goal
