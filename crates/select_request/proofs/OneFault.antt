@@ -20,8 +20,8 @@ not_memory : (at : ℕ) → Malformed at ≡ OutOfMemory → ⊥
 not_memory at e = cc
 
 pub malformed_one_fault : (body : List ℕ) (error : ElementsError) (at : ℕ) → error ≡ Malformed at → length body ≤ longest_body
-  → ((all : List Found) → HasElements body all → error ≡ OutOfMemory) → ((place : ℕ) → IsMalformed body place → IsAt place error)
-  → (fault : RequestFault) → HasFault body fault → refused_at at ≡ fault
+    → ((all : List Found) → HasElements body all → error ≡ OutOfMemory) → ((place : ℕ) → IsMalformed body place → IsAt place error)
+    → (fault : RequestFault) → HasFault body fault → refused_at at ≡ fault
 malformed_one_fault body error at is short spelled refused fault (inl t) = absurd (omega (arith, t.long))
 malformed_one_fault body error at is short spelled refused fault (inr (inl n)) =
     fault_is fault at n.code (sym (subst (λ (e : ElementsError). IsAt fault.at e) is (refused fault.at n.malformed)))

@@ -156,5 +156,12 @@ unfolding parts_of
 printed_bound r h =
     let p = printable r h in
     let last = closes Request ∷ [] in
-    omega (arith, parts_bound (parts_of r), weigh-append (settings_parts r) (range_parts r.range ++ last), weigh-append (range_parts r.range) last,
-      settings_bound r, range_bound r.input r.range p.range, expression_bound r.expression p.expression)
+    omega (
+      arith,
+      parts_bound (parts_of r),
+      weigh-append (settings_parts r) (range_parts r.range ++ last),
+      weigh-append (range_parts r.range) last,
+      settings_bound r,
+      range_bound r.input r.range p.range,
+      expression_bound r.expression p.expression,
+    )

@@ -64,23 +64,23 @@ has_there byte (x ∷ xs) ys = or_true (x == byte) (has byte (xs ++ byte ∷ ys)
 
 -- a tag
 tag_cut : (at : ℕ) (inside rest : List ℕ) → has 62 inside ≡ false
-  → cut_behind 0 at (60 ∷ (inside ++ 62 ∷ rest)) ≡ symbol at (tag inside) ∷ cut_behind 0 (at + (length inside + 2)) rest
+    → cut_behind 0 at (60 ∷ (inside ++ 62 ∷ rest)) ≡ symbol at (tag inside) ∷ cut_behind 0 (at + (length inside + 2)) rest
 tag_cut at inside rest h =
     let there = has_there 62 inside rest in
     let upto = up_to_first 62 inside rest h in
     let count : length (inside ++ 62 ∷ []) ≡ length inside + 1 = length-append inside (62 ∷ []) in
     let place : at + 1 + (length inside + 1) ≡ at + (length inside + 2) = omega arith in
     let behind : cut_behind (length inside + 1) (at + 1) (inside ++ 62 ∷ rest) ≡ cut_behind 0 (at + (length inside + 2)) rest =
-        ap (λ n. cut_behind n (at + 1) (inside ++ 62 ∷ rest)) (sym count)
-        ∙ ap (λ t. cut_behind (length (inside ++ 62 ∷ [])) (at + 1) t) (sym (append_assoc inside (62 ∷ []) rest))
-        ∙ skip_all (inside ++ 62 ∷ []) rest (at + 1)
-        ∙ ap (λ n. cut_behind 0 (at + 1 + n) rest) count
-        ∙ ap (λ n. cut_behind 0 n rest) place in
+    ap (λ n. cut_behind n (at + 1) (inside ++ 62 ∷ rest)) (sym count)
+    ∙ ap (λ t. cut_behind (length (inside ++ 62 ∷ [])) (at + 1) t) (sym (append_assoc inside (62 ∷ []) rest))
+    ∙ skip_all (inside ++ 62 ∷ []) rest (at + 1)
+    ∙ ap (λ n. cut_behind 0 (at + 1 + n) rest) count
+    ∙ ap (λ n. cut_behind 0 n rest) place in
     rw (there, upto) (ap (λ t. symbol at (tag inside) ∷ t) behind)
 
 -- what stands between two tags
 raw_cut : (at : ℕ) (raw more : List ℕ) → has 60 raw ≡ false
-  → cut_behind 0 at (raw ++ 60 ∷ more) ≡ raw_symbols at raw ++ cut_behind 0 (at + length raw) (60 ∷ more)
+    → cut_behind 0 at (raw ++ 60 ∷ more) ≡ raw_symbols at raw ++ cut_behind 0 (at + length raw) (60 ∷ more)
 raw_cut at [] more h = let e : at + 0 ≡ at = omega arith in rw e refl
 raw_cut at (b ∷ raw) more h =
     let parts = or_parts (b == 60) (has 60 raw) h in
@@ -189,7 +189,7 @@ tag_end Start = refl
 tag_end End = refl
 
 cut_start : (at : ℕ) (e : Element) (rest : List ℕ)
-  → cut_behind 0 at (start_bytes e ++ rest) ≡ symbol at (start_tag (name_of e)) ∷ cut_behind 0 (at + length (start_bytes e)) rest
+    → cut_behind 0 at (start_bytes e ++ rest) ≡ symbol at (start_tag (name_of e)) ∷ cut_behind 0 (at + length (start_bytes e)) rest
 unfolding start_bytes
 cut_start at e rest =
     let count : suc (length (name_of e ++ 62 ∷ [])) ≡ length (name_of e) + 2 = omega (arith, length-append (name_of e) (62 ∷ [])) in
@@ -199,7 +199,7 @@ cut_start at e rest =
     ∙ ap (λ n. symbol at (start_tag (name_of e)) ∷ cut_behind 0 (at + n) rest) (sym count)
 
 cut_end : (at : ℕ) (e : Element) (rest : List ℕ)
-  → cut_behind 0 at (end_bytes e ++ rest) ≡ symbol at (end_tag (name_of e)) ∷ cut_behind 0 (at + length (end_bytes e)) rest
+    → cut_behind 0 at (end_bytes e ++ rest) ≡ symbol at (end_tag (name_of e)) ∷ cut_behind 0 (at + length (end_bytes e)) rest
 unfolding end_bytes
 cut_end at e rest =
     let count : suc (suc (length (name_of e ++ 62 ∷ []))) ≡ suc (length (name_of e)) + 2 = omega (arith, length-append (name_of e) (62 ∷ [])) in
@@ -214,7 +214,7 @@ unfolding end_bytes
 end_begins e rest = refl
 
 raw_end : (at : ℕ) (e : Element) (raw rest : List ℕ) → has 60 raw ≡ false
-  → cut_behind 0 at (raw ++ (end_bytes e ++ rest))
+    → cut_behind 0 at (raw ++ (end_bytes e ++ rest))
     ≡ raw_symbols at raw ++ (symbol (at + length raw) (end_tag (name_of e)) ∷ cut_behind 0 (at + length raw + length (end_bytes e)) rest)
 raw_end at e raw rest h =
     ap (λ t. cut_behind 0 at (raw ++ t)) (end_begins e rest)
@@ -223,7 +223,7 @@ raw_end at e raw rest h =
     ∙ ap (λ t. raw_symbols at raw ++ t) (cut_end (at + length raw) e rest)
 
 cut_leaf : (at : ℕ) (e : Element) (raw rest : List ℕ) → has 60 raw ≡ false
-  → cut_behind 0 at ((start_bytes e ++ raw ++ end_bytes e) ++ rest)
+    → cut_behind 0 at ((start_bytes e ++ raw ++ end_bytes e) ++ rest)
     ≡ leaf_symbols at e raw ++ cut_behind 0 (at + length (start_bytes e ++ raw ++ end_bytes e)) rest
 cut_leaf at e raw rest h =
     let s = start_bytes e in
@@ -234,12 +234,12 @@ cut_leaf at e raw rest h =
     ap (λ t. cut_behind 0 at t) bytes
     ∙ cut_start at e (raw ++ (z ++ rest))
     ∙ ap (λ t. symbol at (start_tag (name_of e)) ∷ t)
-        (raw_end (at + length s) e raw rest h
-        ∙ sym (append_assoc (raw_symbols (at + length s) raw) (last ∷ []) (cut_behind 0 (at + length s + length raw + length z) rest))
-        ∙ ap (λ n. (raw_symbols (at + length s) raw ++ last ∷ []) ++ cut_behind 0 n rest) count)
+    (raw_end (at + length s) e raw rest h
+    ∙ sym (append_assoc (raw_symbols (at + length s) raw) (last ∷ []) (cut_behind 0 (at + length s + length raw + length z) rest))
+    ∙ ap (λ n. (raw_symbols (at + length s) raw ++ last ∷ []) ++ cut_behind 0 n rest) count)
 
 cut_part : (part : Part) (at : ℕ) (rest : List ℕ) (parts : List Part) → cut_behind 0 (at + length (print_part part)) rest ≡ symbols_in (at + length (print_part part)) parts
-  → cut_behind 0 at (print_part part ++ rest) ≡ symbols_in at (part ∷ parts)
+    → cut_behind 0 at (print_part part ++ rest) ≡ symbols_in at (part ∷ parts)
 unfolding print_part
 cut_part (opens e) at rest parts h = cut_start at e rest ∙ ap (λ t. symbol at (start_tag (name_of e)) ∷ t) h
 cut_part (closes e) at rest parts h = cut_end at e rest ∙ ap (λ t. symbol at (end_tag (name_of e)) ∷ t) h

@@ -182,9 +182,19 @@ decimal_reads : (n : ℕ) → n < 2 ^ 63 → text_value (escaped (decimal n)) �
 decimal_reads n h = let below : n < 2 ^ 64 = omega arith in characters_read (decimal n) (digits_are_characters (decimal n) (digits_decimal own n below))
 
 csv_input_reads : (csv : CsvInputSettings) → CsvInputHolds csv → TreeReads (csv_input_tree csv)
-csv_input_reads csv h =
-    (truth_reads csv.quoted_delimiters, (character_reads csv.comment h.comment, (character_reads csv.field h.field, (header_reads csv.header,
-    (character_reads csv.quote h.quote, (character_reads csv.escape h.escape, (delimiter_reads csv.delimiter h.delimiter, tt)))))))
+csv_input_reads csv h = (
+  truth_reads csv.quoted_delimiters,
+  (
+    character_reads csv.comment h.comment,
+    (
+      character_reads csv.field h.field,
+      (
+        header_reads csv.header,
+        (character_reads csv.quote h.quote, (character_reads csv.escape h.escape, (delimiter_reads csv.delimiter h.delimiter, tt))),
+      ),
+    ),
+  ),
+)
 
 input_reads : (i : Input) → is_input i ≡ true → TreeReads (input_tree i)
 input_reads (CsvObject csv) h = csv_input_reads csv (csv_input_holds csv h)
@@ -192,9 +202,16 @@ input_reads JsonLines h = (characters_read (codes "LINES") refl, tt)
 input_reads Parquet h = tt
 
 csv_output_reads : (csv : CsvOutputSettings) → CsvOutputHolds csv → TreeReads (csv_output_tree csv)
-csv_output_reads csv h =
-    (character_reads csv.field h.field, (character_reads csv.quote h.quote, (character_reads csv.escape h.escape,
-    (quoting_reads csv.always, (delimiter_reads csv.delimiter h.delimiter, tt)))))
+csv_output_reads csv h = (
+  character_reads csv.field h.field,
+  (
+    character_reads csv.quote h.quote,
+    (
+      character_reads csv.escape h.escape,
+      (quoting_reads csv.always, (delimiter_reads csv.delimiter h.delimiter, tt)),
+    ),
+  ),
+)
 
 output_reads : (o : Output) → is_output o ≡ true → TreeReads (output_tree o)
 output_reads (CsvReply csv) h = csv_output_reads csv (csv_output_holds csv h)
@@ -220,19 +237,39 @@ expression_reads : (x : List ℕ) → IsUtf8 x → is_expression x ≡ true → 
 expression_reads x u h = text_value_escaped x u (not_true_is_false (has 0 x) (and_right (nat_le (length x) 262144) (not (has 0 x)) h))
 
 tree_reads : (r : SelectRequest) → IsUtf8 r.expression → Printable r → TreeReads (tree_of r)
-tree_reads r u h =
-    (expression_reads r.expression u h.expression, (characters_read (codes "SQL") refl, ((truth_reads r.progress, tt),
-    ((characters_read (codes "NONE") refl, (input_reads r.input h.input, tt)), ((output_reads r.output h.output, tt),
-    range_reads r.input r.range h.range)))))
+tree_reads r u h = (
+  expression_reads r.expression u h.expression,
+  (
+    characters_read (codes "SQL") refl,
+    (
+      (truth_reads r.progress, tt),
+      (
+        (characters_read (codes "NONE") refl, (input_reads r.input h.input, tt)),
+        (
+          (output_reads r.output h.output, tt),
+          range_reads r.input r.range h.range,
+        ),
+      ),
+    ),
+  ),
+)
 
 -- ---- the body
 
 body_spelled : (found : List Found) (symbols : List Symbol) → (element_within 3 Request).Spells found symbols → request_body.Spells found symbols
 unfolding request_body
 body_spelled found symbols w = record {
-  value = None; left = []; right = symbols; joined = refl; whole = (false, (refl, refl));
+  value = None;
+  left = [];
+  right = symbols;
+  joined = refl;
+  whole = (false, (refl, refl));
   after = record {
-    value = None; left = []; right = symbols; joined = refl; whole = no_blanks;
+    value = None;
+    left = [];
+    right = symbols;
+    joined = refl;
+    whole = no_blanks;
     after = record { value = found; left = symbols; right = []; joined = sym (append-nil symbols); whole = w; after = (None, refl, no_blanks) };
   };
 }

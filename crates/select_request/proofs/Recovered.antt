@@ -135,8 +135,12 @@ csv_input_holds csv h =
     let h3 = and_left (c && f && q) e h4 in
     let h2 = and_left (c && f) q h3 in
     record {
-      comment = and_left c f h2; field = and_right c f h2; quote = and_right (c && f) q h3; escape = and_right (c && f && q) e h4;
-      delimiter = and_right (c && f && q && e) d h5; one = and_right (c && f && q && e && d) o h6;
+      comment = and_left c f h2;
+      field = and_right c f h2;
+      quote = and_right (c && f) q h3;
+      escape = and_right (c && f && q) e h4;
+      delimiter = and_right (c && f && q && e) d h5;
+      one = and_right (c && f && q && e && d) o h6;
       apart = and_right (c && f && q && e && d && o) (input_is_apart csv) h;
     }
 
@@ -157,8 +161,11 @@ csv_output_holds csv h =
     let h3 = and_left (f && q && e) d h4 in
     let h2 = and_left (f && q) e h3 in
     record {
-      field = and_left f q h2; quote = and_right f q h2; escape = and_right (f && q) e h3;
-      delimiter = and_right (f && q && e) d h4; apart = and_right (f && q && e && d) (output_is_apart csv) h;
+      field = and_left f q h2;
+      quote = and_right f q h2;
+      escape = and_right (f && q) e h3;
+      delimiter = and_right (f && q && e) d h4;
+      apart = and_right (f && q && e && d) (output_is_apart csv) h;
     }
 
 -- a text that is there and is read
@@ -338,16 +345,91 @@ all_met r h =
     let p = r.progress in
     let i = r.input in
     let o = r.output in
-    let g = r.range in
-    (refl, (refl, (refl, (ap is_some (truth_read p), (refl, (refl,
-    (input_format x p o g i, (one_input_format x p o g i,
-    (quoted_fits x p o g i, (comment_fits x p o g i h.input, (input_field_fits x p o g i h.input, (header_fits x p o g i,
-    (input_quote_fits x p o g i h.input, (input_escape_fits x p o g i h.input, (input_delimiter_fits x p o g i h.input,
-    (input_apart x p o g i h.input, (holds_type x p o g i, (type_fits x p o g i,
-    (refl, (output_format x p i g o, (one_output_format x p i g o,
-    (output_field_fits x p i g o h.output, (output_quote_fits x p i g o h.output, (output_escape_fits x p i g o h.output,
-    (quoting_fits x p i g o, (csv_delimiter_fits x p i g o h.output, (output_apart x p i g o h.output, (json_delimiter_fits x p i g o h.output,
-    (range_met x p i o g h.range, (range_allowed x p i o g h.range, tt))))))))))))))))))))))))))))))
+    let g = r.range in (
+      refl,
+      (
+        refl,
+        (
+          refl,
+          (
+            ap is_some (truth_read p),
+            (
+              refl,
+              (
+                refl,
+                (
+                  input_format x p o g i,
+                  (
+                    one_input_format x p o g i,
+                    (
+                      quoted_fits x p o g i,
+                      (
+                        comment_fits x p o g i h.input,
+                        (
+                          input_field_fits x p o g i h.input,
+                          (
+                            header_fits x p o g i,
+                            (
+                              input_quote_fits x p o g i h.input,
+                              (
+                                input_escape_fits x p o g i h.input,
+                                (
+                                  input_delimiter_fits x p o g i h.input,
+                                  (
+                                    input_apart x p o g i h.input,
+                                    (
+                                      holds_type x p o g i,
+                                      (
+                                        type_fits x p o g i,
+                                        (
+                                          refl,
+                                          (
+                                            output_format x p i g o,
+                                            (
+                                              one_output_format x p i g o,
+                                              (
+                                                output_field_fits x p i g o h.output,
+                                                (
+                                                  output_quote_fits x p i g o h.output,
+                                                  (
+                                                    output_escape_fits x p i g o h.output,
+                                                    (
+                                                      quoting_fits x p i g o,
+                                                      (
+                                                        csv_delimiter_fits x p i g o h.output,
+                                                        (
+                                                          output_apart x p i g o h.output,
+                                                          (
+                                                            json_delimiter_fits x p i g o h.output,
+                                                            (range_met x p i o g h.range, (range_allowed x p i o g h.range, tt)),
+                                                          ),
+                                                        ),
+                                                      ),
+                                                    ),
+                                                  ),
+                                                ),
+                                              ),
+                                            ),
+                                          ),
+                                        ),
+                                      ),
+                                    ),
+                                  ),
+                                ),
+                              ),
+                            ),
+                          ),
+                        ),
+                      ),
+                    ),
+                  ),
+                ),
+              ),
+            ),
+          ),
+        ),
+      ),
+    )
 
 -- the elements of a printed body have no fault
 pub printed_passes : (r : SelectRequest) → is_printable r ≡ true → first_fault (found_of r) ≡ None

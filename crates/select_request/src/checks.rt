@@ -140,10 +140,8 @@ impl Check {
             Check::Holds(_, _) | Check::HasFormat(_) => RequestFaultCode::MissingRequiredParameter,
             Check::Fits(Element::ExpressionType) => RequestFaultCode::InvalidExpressionType,
             Check::Fits(Element::CompressionType) => RequestFaultCode::InvalidCompressionFormat,
-            Check::Fits(_)
-            | Check::HasOneFormat(_)
-            | Check::InputIsApart
-            | Check::OutputIsApart => RequestFaultCode::InvalidRequestParameter,
+            Check::Fits(_) | Check::HasOneFormat(_) | Check::InputIsApart | Check::OutputIsApart =>
+                RequestFaultCode::InvalidRequestParameter,
             Check::IsRange => RequestFaultCode::InvalidScanRange,
             Check::AllowsRange => RequestFaultCode::UnsupportedScanRangeInput,
         }

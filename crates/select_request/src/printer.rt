@@ -292,10 +292,8 @@ impl Printer {
 
 /// What stands before the first `<`, `>` or `&` of a text, that byte, and what stands behind it.
 fn cut_at_special(text: &str) -> Option<(&str, u8, &str)>
-    ensures {
-        MatchOption result (escaped text.now ≡ text.now)
-            (λ cut. (cut.1 < 128) × (length cut.2.now < length text.now) × (escaped text.now ≡ cut.0.now ++ (escaped_byte cut.1 ++ escaped cut.2.now)))
-    }
+    ensures { MatchOption result (escaped text.now ≡ text.now)
+        (λ cut. (cut.1 < 128) × (length cut.2.now < length text.now) × (escaped text.now ≡ cut.0.now ++ (escaped_byte cut.1 ++ escaped cut.2.now))) }
 {
     let at = memchr3(b'<', b'>', b'&', text.as_bytes())?;
     let byte = text.as_bytes()[at];

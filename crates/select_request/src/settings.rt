@@ -8,7 +8,9 @@ use crate::checks::first_fault;
 use crate::element::Element;
 use crate::fault::RequestFault;
 use crate::found::{Found, has, take_text, text_in};
-use crate::request::{CsvInput, CsvOutput, Delimiter, Header, Input, Output, ScanRange, SelectRequest, TextBuf};
+use crate::request::{
+    CsvInput, CsvOutput, Delimiter, Header, Input, Output, ScanRange, SelectRequest, TextBuf,
+};
 use crate::values::{character, header, one, one_or_two, quoting, range, truth};
 use std::alloc::Global;
 
@@ -94,7 +96,11 @@ pub(crate) fn input_from(found: &[Found]) -> Input
     if has(found, Element::CsvInput) {
         return Input::Csv(csv_input_from(found));
     }
-    if has(found, Element::JsonInput) { Input::JsonLines } else { Input::Parquet }
+    if has(found, Element::JsonInput) {
+        Input::JsonLines
+    } else {
+        Input::Parquet
+    }
 }
 
 /// How the reply's CSV is written.
