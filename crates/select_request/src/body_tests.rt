@@ -272,6 +272,16 @@ fn body_of(rt: &impl Abort, alloc: Global, request: &SelectRequest) -> Result<Te
     Ok(print(alloc, request)?)
 }
 
+/// The request, printed and read.
+fn again(
+    rt: &impl Abort,
+    alloc: Global,
+    request: &SelectRequest,
+) -> Result<SelectRequest, ReadError> {
+    assert!(rt; request.is_printable());
+    print_and_read(alloc, request)
+}
+
 #[test]
 fn requests(rt: HostRuntime) -> Result<(), Fail> {
     let cases = [
@@ -370,9 +380,9 @@ fn every_setting(rt: HostRuntime) -> Result<(), Fail> {
         "<SelectObjectContentRequest><Expression>a &lt; b &amp;&amp; c &gt; é</Expression><ExpressionType>SQL</ExpressionType><RequestProgress><Enabled>TRUE</Enabled></RequestProgress><InputSerialization><CompressionType>NONE</CompressionType><CSV><AllowQuotedRecordDelimiter>FALSE</AllowQuotedRecordDelimiter><Comments>&amp;</Comments><FieldDelimiter>&lt;</FieldDelimiter><FileHeaderInfo>USE</FileHeaderInfo><QuoteCharacter>&gt;</QuoteCharacter><QuoteEscapeCharacter>\\</QuoteEscapeCharacter><RecordDelimiter>|</RecordDelimiter></CSV></InputSerialization><OutputSerialization><CSV><FieldDelimiter>&amp;</FieldDelimiter><QuoteCharacter>&lt;</QuoteCharacter><QuoteEscapeCharacter>&lt;</QuoteEscapeCharacter><QuoteFields>ALWAYS</QuoteFields><RecordDelimiter>\r\n</RecordDelimiter></CSV></OutputSerialization><ScanRange><Start>5</Start><End>5</End></ScanRange></SelectObjectContentRequest>";
     let text = body_of(&rt, rt.alloc(), &request)?;
     assert_eq!(rt; text.text(), wanted);
-    match print_and_read(rt.alloc(), &request) {
-        Ok(again) => {
-            let text = body_of(&rt, rt.alloc(), &again)?;
+    match again(&rt, rt.alloc(), &request) {
+        Ok(read) => {
+            let text = body_of(&rt, rt.alloc(), &read)?;
             assert_eq!(rt; text.text(), wanted);
         }
         Err(error) => assert!(rt; false, "{error:?}"),
