@@ -1,6 +1,6 @@
 -- Escaping a text from one special byte to the next.
-use Rattle.std.specs.Prelude.{◌≡◌, ℕ, zero, suc, ◌+◌, ◌<◌, ◌≤◌, Bool, true, false, ◌||◌, ◌==◌, List, [], ◌∷◌, ◌++◌, length, take, drop, codes, slice_index, if◌then◌else◌, refl}
-use Rattle.std.proofs.Common.{sym, ◌∙◌, ap, subst, arith, add-one, get_or}
+use Rattle.std.specs.Prelude.{◌≡◌, ℕ, zero, suc, ◌+◌, ◌<◌, Bool, true, false, ◌||◌, ◌==◌, List, [], ◌∷◌, ◌++◌, length, take, drop, codes, slice_index, if◌then◌else◌, refl}
+use Rattle.std.proofs.Common.{◌∙◌, ap, arith, add-one}
 use Rattle.std.proofs.lemmas.Bool.Decides.{nat_tests}
 use Rattle.memchr.specs.Find.{is_byte3, Nowhere, Passes, NoneBefore}
 use Rattle.select_request.specs.Printed.{escaped_byte, escaped}

@@ -1,6 +1,6 @@
 -- Going through the elements found: `==` on elements is the specs' test, and what a step of `find` keeps.
-use Rattle.std.specs.Prelude.{◌≡◌, ℕ, ◌+◌, ◌<◌, Bool, true, false, nat_eq, List, [], ◌∷◌, length, drop, Option, Some, None, if◌then◌else◌, refl}
-use Rattle.std.proofs.Common.{sym, ◌∙◌, ap, get_or, add-one, arith}
+use Rattle.std.specs.Prelude.{◌≡◌, ℕ, ◌+◌, ◌<◌, true, false, nat_eq, List, [], ◌∷◌, length, drop, Some, None, refl}
+use Rattle.std.proofs.Common.{◌∙◌, ap, get_or, add-one, arith}
 use Rattle.std.proofs.Math.Seq.{drop-cons}
 use denote.Enum.Bare.{sameb}
 use denote.Enum.Declared.{tag_of}

@@ -1,6 +1,6 @@
 -- The elements of a printed body, looked up by element.
-use Rattle.std.specs.Prelude.{◌≡◌, ℕ, ◌+◌, Bool, true, false, List, [], ◌∷◌, ◌++◌, length, Option, None, Some, codes, decimal, if◌then◌else◌, refl}
-use Rattle.std.proofs.Common.{sym, ◌∙◌, ap}
+use Rattle.std.specs.Prelude.{◌≡◌, ℕ, ◌+◌, Bool, true, false, List, [], ◌∷◌, length, Option, None, Some, codes, decimal, if◌then◌else◌, refl}
+use Rattle.std.proofs.Common.{◌∙◌}
 use Rattle.request_elements.specs.Elements.{same_element}
 use Rattle.select_request.specs.Request.{find, text_at, text_in}
 use Rattle.select_request.specs.Printed.{Part, opens, leaf, closes, print_part, truth_text, header_text, quoting_text, delimiter_text, parts_of, found_in, found_of}

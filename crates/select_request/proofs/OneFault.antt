@@ -1,8 +1,8 @@
 -- A body that is none by its grammar has one fault.
-use Rattle.std.specs.Prelude.{◌≡◌, ℕ, ◌≤◌, List, length, refl}
+use Rattle.std.specs.Prelude.{◌≡◌, ℕ, ◌≤◌, List, length}
 use Rattle.std.proofs.Common.{sym, ◌∙◌, subst, arith, inl, inr}
 use Rattle.request_elements.specs.Body.{HasElements, IsMalformed, IsAt}
-use Rattle.select_request.specs.Reading.{longest_body, IsTooLong, IsNoBody, FailsCheck, HasFault}
+use Rattle.select_request.specs.Reading.{longest_body, HasFault}
 use Rattle.request_elements.specs.declared.elements.ElementsError.{ElementsError}
 use Rattle.request_elements.specs.declared.elements.ElementsError.TheVariants.{Malformed, OutOfMemory}
 use Rattle.select_request.specs.declared.fault.RequestFault.{RequestFault}

@@ -1,12 +1,10 @@
 -- The pieces of a printed body.
-use Rattle.std.specs.Prelude.{◌≡◌, ℕ, zero, suc, ◌+◌, Bool, true, false, ◌||◌, ◌==◌, List, [], ◌∷◌, ◌++◌, length, if◌then◌else◌, refl}
-use Rattle.std.specs.List.{list_any}
+use Rattle.std.specs.Prelude.{◌≡◌, ℕ, suc, ◌+◌, Bool, true, false, ◌||◌, ◌==◌, List, [], ◌∷◌, ◌++◌, length, if◌then◌else◌, refl}
 use Rattle.std.proofs.Common.{sym, ◌∙◌, ap, arith, append_assoc}
 use Rattle.std.proofs.lemmas.Bool.{eq-eqb, or_parts}
-use Rattle.std.proofs.lemmas.List.{append-nil}
 use Rattle.std.proofs.Math.ListN.{length-append}
 use Rattle.request_elements.specs.Elements.{name_of}
-use Rattle.request_elements.specs.Pieces.{Piece, start_tag, end_tag, char_data, unfit, Symbol, has, up_to, tag, is_declaration, named, namespace, piece_from, further, cut_behind, cut, symbols_of}
+use Rattle.request_elements.specs.Pieces.{Piece, start_tag, end_tag, char_data, Symbol, has, up_to, tag, is_declaration, named, namespace, cut_behind, cut, symbols_of}
 use Rattle.select_request.specs.Printed.{Part, opens, leaf, closes, escaped, start_tag as start_bytes, end_tag as end_bytes, print_part, print_parts}
 use Rattle.request_elements.specs.declared.element.Element.{Element}
 use Rattle.request_elements.specs.declared.element.Element.TheVariants.{Request, Expression, ExpressionType, RequestProgress, Enabled, InputSerialization, CompressionType, CsvInput, AllowQuotedRecordDelimiter, Comments, InputFieldDelimiter, FileHeaderInfo, InputQuoteCharacter, InputQuoteEscapeCharacter, InputRecordDelimiter, JsonInput, JsonType, ParquetInput, OutputSerialization, CsvOutput, OutputFieldDelimiter, OutputQuoteCharacter, OutputQuoteEscapeCharacter, QuoteFields, CsvRecordDelimiter, JsonOutput, JsonRecordDelimiter, ScanRange, Start, End}

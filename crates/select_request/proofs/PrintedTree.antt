@@ -1,20 +1,19 @@
 -- A printed body is spelled by the grammar for the elements of its request.
-use Rattle.std.specs.Prelude.{◌≡◌, ℕ, ◌+◌, ◌^◌, ◌<◌, Bool, true, false, ◌&&◌, ◌||◌, not, ◌==◌, nat_lt, nat_le, List, [], ◌∷◌, ◌++◌, length, Option, None, Some, codes, decimal, IsUtf8, refl}
-use Rattle.std.specs.List.{list_any, list_all}
+use Rattle.std.specs.Prelude.{◌≡◌, ℕ, ◌^◌, ◌<◌, Bool, true, false, ◌&&◌, not, ◌==◌, nat_lt, nat_le, List, [], ◌∷◌, length, Option, None, Some, codes, decimal, IsUtf8, refl}
+use Rattle.std.specs.List.{list_all}
 use Rattle.std.specs.Str.{all_ascii_digits}
 use Rattle.std.specs.Char.{is_ascii_digit}
-use Rattle.std.proofs.Common.{sym, ◌∙◌, ap, subst, arith}
+use Rattle.std.proofs.Common.{sym, subst, arith}
 use Rattle.std.proofs.lemmas.Bool.{or_from}
 use Rattle.std.proofs.lemmas.Bool.Decides.{nat_tests}
 use Rattle.std.proofs.lemmas.List.{append-nil}
 use Rattle.std.proofs.lemmas.Fmt.{digits_decimal}
 use Rattle.request_elements.specs.Pieces.{Symbol, has, symbols_of}
 use Rattle.request_elements.specs.TextValue.{text_value}
-use Rattle.request_elements.specs.Grammar.{blanks, element_within, request_body}
+use Rattle.request_elements.specs.Grammar.{element_within, request_body}
 use Rattle.select_request.specs.Values.{is_character}
-use Rattle.select_request.specs.Printable.{is_delimiter, is_one, is_csv_input, is_csv_output, is_input, is_output, is_range, allows_range, is_range_of, is_expression, is_printable}
-use Rattle.select_request.specs.Printed.{Part, opens, leaf, closes, escaped, truth_text, header_text, quoting_text, delimiter_text, parts_of, print_parts, printed, found_in, found_of}
-use Rattle.request_elements.specs.declared.element.Element.{Element}
+use Rattle.select_request.specs.Printable.{is_delimiter, is_input, is_output, allows_range, is_range_of, is_expression, is_printable}
+use Rattle.select_request.specs.Printed.{Part, escaped, truth_text, header_text, quoting_text, delimiter_text, parts_of, printed, found_in, found_of}
 use Rattle.request_elements.specs.declared.element.Element.TheVariants.{Request, Expression, ExpressionType, RequestProgress, Enabled, InputSerialization, CompressionType, CsvInput, AllowQuotedRecordDelimiter, Comments, InputFieldDelimiter, FileHeaderInfo, InputQuoteCharacter, InputQuoteEscapeCharacter, InputRecordDelimiter, JsonInput, JsonType, ParquetInput, OutputSerialization, CsvOutput, OutputFieldDelimiter, OutputQuoteCharacter, OutputQuoteEscapeCharacter, QuoteFields, CsvRecordDelimiter, JsonOutput, JsonRecordDelimiter, ScanRange, Start, End}
 use Rattle.request_elements.specs.declared.found.Found.{Found}
 use Rattle.select_request.specs.declared.request.CsvInput.{CsvInput as CsvInputSettings}
@@ -36,7 +35,7 @@ use Rattle.select_request.proofs.PrintedPieces.{symbols_in, symbols_of_parts}
 use Rattle.select_request.proofs.Readback.{less, at_most_less}
 use Rattle.select_request.proofs.Recovered.{CsvInputHolds, csv_input_holds, CsvOutputHolds, csv_output_holds}
 use Rattle.select_request.proofs.Resolved.{ascii_is_utf8, text_value_escaped}
-use Rattle.select_request.proofs.Trees.{Tree, with_text, node, Trees, none, tree, root_of, tree_parts, is_tree, TreeReads, TreesRead, no_blanks, tree_spelled}
+use Rattle.select_request.proofs.Trees.{Tree, with_text, node, Trees, none, tree, tree_parts, is_tree, TreeReads, TreesRead, no_blanks, tree_spelled}
 use Rattle.select_request.proofs.WholeNumber.{own}
 
 -- ---- the tree of a request

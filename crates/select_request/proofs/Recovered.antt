@@ -1,5 +1,5 @@
 -- The elements of a printed body pass all checks, and spell the request.
-use Rattle.std.specs.Prelude.{◌≡◌, ℕ, ◌+◌, Bool, true, false, nat_lt, ◌&&◌, not, List, [], ◌∷◌, Option, None, Some, is_some, unwrap_or, codes, if◌then◌else◌, refl}
+use Rattle.std.specs.Prelude.{◌≡◌, ℕ, ◌+◌, Bool, true, false, nat_lt, ◌&&◌, not, List, [], ◌∷◌, Option, None, Some, is_some, unwrap_or, if◌then◌else◌, refl}
 use Rattle.std.proofs.Common.{sym, ◌∙◌, ap, subst}
 use Rattle.select_request.specs.Values.{is_word, is_character, truth_of, header_of, quoting_of, character_of, one_of, one_or_two_of, range_of, input_is_apart, output_is_apart}
 use Rattle.select_request.specs.Request.{text_in, value_at, comma, double_quote, number_sign, line_feed, request_from}
@@ -9,13 +9,11 @@ use Rattle.select_request.specs.Printable.{is_delimiter, is_one, is_csv_input, i
 use Rattle.select_request.specs.declared.checks.Check.{Check}
 use Rattle.select_request.specs.declared.checks.Check.TheVariants.{Holds, Fits, HasFormat, HasOneFormat, InputIsApart, OutputIsApart, IsRange, AllowsRange}
 use Rattle.request_elements.specs.declared.element.Element.{Element}
-use Rattle.request_elements.specs.declared.element.Element.TheVariants.{Request, Expression, ExpressionType, RequestProgress, Enabled, InputSerialization, CompressionType, CsvInput, AllowQuotedRecordDelimiter, Comments, InputFieldDelimiter, FileHeaderInfo, InputQuoteCharacter, InputQuoteEscapeCharacter, InputRecordDelimiter, JsonInput, JsonType, ParquetInput, OutputSerialization, CsvOutput, OutputFieldDelimiter, OutputQuoteCharacter, OutputQuoteEscapeCharacter, QuoteFields, CsvRecordDelimiter, JsonOutput, JsonRecordDelimiter, ScanRange, Start, End}
+use Rattle.request_elements.specs.declared.element.Element.TheVariants.{Expression, Enabled, InputSerialization, CsvInput, AllowQuotedRecordDelimiter, Comments, InputFieldDelimiter, FileHeaderInfo, InputQuoteCharacter, InputQuoteEscapeCharacter, InputRecordDelimiter, JsonInput, JsonType, ParquetInput, OutputSerialization, CsvOutput, OutputFieldDelimiter, OutputQuoteCharacter, OutputQuoteEscapeCharacter, QuoteFields, CsvRecordDelimiter, JsonOutput, JsonRecordDelimiter, ScanRange, Start, End}
 use Rattle.request_elements.specs.declared.found.Found.{Found}
 use Rattle.select_request.specs.declared.request.CsvInput.{CsvInput as CsvInputSettings}
 use Rattle.select_request.specs.declared.request.CsvOutput.{CsvOutput as CsvOutputSettings}
-use Rattle.select_request.specs.declared.request.Delimiter.{Delimiter}
 use Rattle.select_request.specs.declared.request.Delimiter.TheVariants.{One}
-use Rattle.select_request.specs.declared.request.Header.{Header}
 use Rattle.select_request.specs.declared.request.Header.TheVariants.{Without}
 use Rattle.select_request.specs.declared.request.Input.{Input}
 use Rattle.select_request.specs.declared.request.Input.TheVariants.{Csv as CsvObject, JsonLines, Parquet}
@@ -23,7 +21,7 @@ use Rattle.select_request.specs.declared.request.Output.{Output}
 use Rattle.select_request.specs.declared.request.Output.TheVariants.{Csv as CsvReply, Json}
 use Rattle.select_request.specs.declared.request.ScanRange.{ScanRange as Range}
 use Rattle.select_request.specs.declared.request.SelectRequest.{SelectRequest}
-use Rattle.select_request.proofs.Lookups.{wanted, found_is, funext, of_csv_input, of_csv_output, of_json_output, of_start, of_end}
+use Rattle.select_request.proofs.Lookups.{wanted, found_is, funext}
 use Rattle.select_request.proofs.Printables.{and_left, and_right, Printable, printable}
 use Rattle.select_request.proofs.Readback.{truth_read, header_read, quoting_read, character_read, one_read, one_or_two_read, range_read}
 

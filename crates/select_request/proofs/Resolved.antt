@@ -1,18 +1,16 @@
 -- An escaped text stands for the text.
-use Rattle.std.specs.Prelude.{◌≡◌, ℕ, zero, suc, ◌+◌, ◌/◌, ◌%◌, ◌<◌, ◌≤◌, Bool, true, false, ◌||◌, ◌&&◌, not, ◌==◌, nat_lt, nat_le, List, [], ◌∷◌, ◌++◌, length, Option, None, Some, option_map, codes, encode_utf8, slice_index, IsUtf8, if◌then◌else◌, cond, refl}
-use Rattle.std.specs.Char.{IsScalar}
+use Rattle.std.specs.Prelude.{◌≡◌, ℕ, zero, suc, ◌+◌, ◌/◌, ◌%◌, ◌<◌, ◌≤◌, Bool, true, false, ◌==◌, nat_lt, List, [], ◌∷◌, ◌++◌, length, Some, codes, slice_index, IsUtf8, if◌then◌else◌, refl}
 use Rattle.std.specs.List.{list_any, list_all}
-use Rattle.std.specs.Str.{is_utf8}
 use Rattle.std.proofs.Common.{sym, ◌∙◌, ap, subst, arith, append_assoc, lit<}
 use Rattle.std.proofs.lemmas.List.{append-nil}
 use Rattle.std.proofs.lemmas.Bool.{eqb-true, ltb-true, or_from, or_parts, cond_both}
 use Rattle.std.proofs.lemmas.List.Folds.{list_any-append}
 use Rattle.select_request.proofs.Printables.{and_left, and_right}
 use Rattle.std.proofs.lemmas.Bool.Decides.{nat_tests}
-use Rattle.std.proofs.lemmas.Str.{IsUtf8-append, IsUtf8-encode, IsUtf8-nil, encode_ascii, is_utf8-from_IsUtf8, encodes-chars, scalars-chars}
+use Rattle.std.proofs.lemmas.Str.{IsUtf8-append, IsUtf8-encode, IsUtf8-nil, encode_ascii, is_utf8-from_IsUtf8}
 use lib.Utf8.{encode, encodes, scalar, scalars}
-use Rattle.request_elements.specs.Pieces.{has, up_to}
-use Rattle.request_elements.specs.TextValue.{referred, reference_in, then_resolved, resolved_behind, resolved, text_value}
+use Rattle.request_elements.specs.Pieces.{has}
+use Rattle.request_elements.specs.TextValue.{referred, resolved_behind, resolved, text_value}
 use Rattle.select_request.specs.Printed.{escaped_byte, escaped}
 use Rattle.select_request.proofs.Escaping.{is_special, special_is_ascii, escaped_plain}
 

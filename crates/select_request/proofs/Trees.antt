@@ -1,13 +1,13 @@
 -- A body as a tree, whose pieces are spelled by the grammar for its elements.
-use Rattle.std.specs.Prelude.{◌≡◌, ℕ, zero, suc, ◌+◌, Bool, true, false, ◌&&◌, not, nat_eq, List, [], ◌∷◌, ◌++◌, length, Option, None, Some, unwrap_or, bytes_eq, if◌then◌else◌, refl}
+use Rattle.std.specs.Prelude.{◌≡◌, ℕ, zero, suc, ◌+◌, Bool, true, false, ◌&&◌, not, nat_eq, List, [], ◌∷◌, ◌++◌, length, None, Some, unwrap_or, bytes_eq, refl}
 use Rattle.std.proofs.Common.{sym, ◌∙◌, ap, subst, arith, append_assoc}
 use Rattle.std.proofs.lemmas.List.{append-nil}
 use Rattle.std.proofs.Math.ListN.{length-append}
-use Rattle.grammar_rules.specs.Rules.{Rule, Verdict, takes, refuses, terminal, token, made, either, optional, sequence, followed_by, preceded_by, ◌&◌, one_of_two, allowed, member, without, some_members, members}
+use Rattle.grammar_rules.specs.Rules.{Rule, token, followed_by, allowed, without, some_members}
 use Rattle.request_elements.specs.Elements.{name_of, is_leaf, is_child, same_element}
-use Rattle.request_elements.specs.Pieces.{Piece, start_tag, end_tag, char_data, Symbol}
+use Rattle.request_elements.specs.Pieces.{start_tag, end_tag, Symbol}
 use Rattle.request_elements.specs.TextValue.{text_value}
-use Rattle.request_elements.specs.Grammar.{is_blank_piece, starts_element, ends_element, blanks, start_of, end_of, characters, characters_of, taken, found_alone, joined, leaf as leaf_rule, container, children, element_within}
+use Rattle.request_elements.specs.Grammar.{starts_element, ends_element, blanks, start_of, end_of, characters, taken, found_alone, joined, leaf as leaf_rule, container, children, element_within}
 use Rattle.select_request.specs.Printed.{Part, opens, leaf, closes, escaped, start_tag as start_bytes, print_part, print_parts, found_in}
 use Rattle.request_elements.specs.declared.element.Element.{Element}
 use Rattle.request_elements.specs.declared.found.Found.{Found}

@@ -1,6 +1,6 @@
 -- The request of elements that pass all checks is valid.
-use Rattle.std.specs.Prelude.{◌≡◌, ℕ, zero, suc, ◌^◌, ◌<◌, ◌≤◌, Bool, true, false, nat_lt, nat_le, ◌&&◌, ◌==◌, not, List, [], ◌∷◌, Option, None, Some, is_some, unwrap_or, if◌then◌else◌, refl}
-use Rattle.std.proofs.Common.{sym, ◌∙◌, ap, subst, arith}
+use Rattle.std.specs.Prelude.{◌≡◌, ℕ, zero, suc, ◌^◌, ◌<◌, Bool, true, false, nat_lt, nat_le, ◌&&◌, ◌==◌, not, List, [], ◌∷◌, Option, None, Some, is_some, unwrap_or, if◌then◌else◌, refl}
+use Rattle.std.proofs.Common.{◌∙◌, ap, subst, arith}
 use Rattle.std.proofs.lemmas.Bool.Decides.{nat_tests}
 use Rattle.std.specs.Str.Parse.{digits_value}
 use Rattle.select_request.specs.Values.{is_character, is_digits, truth_of, character_of, one_of, one_or_two_of, whole_number_of, between, from_start, last_bytes, range_of, input_is_apart, output_is_apart}
@@ -8,20 +8,17 @@ use Rattle.select_request.specs.Request.{has, text_in, value_at, value_in, comma
 use Rattle.select_request.specs.Checks.{checks, fits_where_there, is_met, fault_at, first_unmet, first_fault}
 use Rattle.select_request.specs.Printable.{is_delimiter, is_one, is_csv_input, is_csv_output, is_input, is_output, is_range, allows_range, is_range_of, is_valid}
 use Rattle.select_request.specs.declared.checks.Check.{Check}
-use Rattle.select_request.specs.declared.checks.Check.TheVariants.{Holds, Fits, HasFormat, HasOneFormat, InputIsApart, OutputIsApart, IsRange, AllowsRange}
-use Rattle.request_elements.specs.declared.element.Element.{Element}
-use Rattle.request_elements.specs.declared.element.Element.TheVariants.{Request, Expression, ExpressionType, RequestProgress, Enabled, InputSerialization, CompressionType, CsvInput, AllowQuotedRecordDelimiter, Comments, InputFieldDelimiter, FileHeaderInfo, InputQuoteCharacter, InputQuoteEscapeCharacter, InputRecordDelimiter, JsonInput, JsonType, ParquetInput, OutputSerialization, CsvOutput, OutputFieldDelimiter, OutputQuoteCharacter, OutputQuoteEscapeCharacter, QuoteFields, CsvRecordDelimiter, JsonOutput, JsonRecordDelimiter, ScanRange, Start, End}
+use Rattle.select_request.specs.declared.checks.Check.TheVariants.{Fits, InputIsApart, OutputIsApart, AllowsRange}
+use Rattle.request_elements.specs.declared.element.Element.TheVariants.{CsvInput, AllowQuotedRecordDelimiter, Comments, InputFieldDelimiter, InputQuoteCharacter, InputQuoteEscapeCharacter, InputRecordDelimiter, JsonInput, CsvOutput, OutputFieldDelimiter, OutputQuoteCharacter, OutputQuoteEscapeCharacter, CsvRecordDelimiter, JsonRecordDelimiter, ScanRange, Start, End}
 use Rattle.request_elements.specs.declared.found.Found.{Found}
 use Rattle.select_request.specs.declared.request.Delimiter.{Delimiter}
 use Rattle.select_request.specs.declared.request.Delimiter.TheVariants.{One, Two}
-use Rattle.select_request.specs.declared.request.Input.{Input}
 use Rattle.select_request.specs.declared.request.Input.TheVariants.{Csv as CsvObject, JsonLines, Parquet}
-use Rattle.select_request.specs.declared.request.Output.{Output}
 use Rattle.select_request.specs.declared.request.Output.TheVariants.{Csv as CsvReply, Json}
 use Rattle.select_request.specs.declared.request.ScanRange.{ScanRange as Range}
 use Rattle.select_request.specs.declared.request.ScanRange.TheVariants.{Between, From, Last}
 use Rattle.select_request.specs.declared.request.SelectRequest.{SelectRequest}
-use Rattle.select_request.proofs.Printables.{and_left, and_right}
+use Rattle.select_request.proofs.Printables.{and_right}
 use Rattle.select_request.proofs.Readback.{less}
 
 -- ---- the checks that are met

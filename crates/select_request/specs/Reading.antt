@@ -1,5 +1,5 @@
 -- What reading a body gives: the request that it spells, or its first fault.
-use Rattle.std.specs.Prelude.{◌≡◌, ℕ, ◌<◌, ◌≤◌, List, length, Option, Some, None, Result, Ok, Err, ◌⊎◌}
+use Rattle.std.specs.Prelude.{◌≡◌, ℕ, ◌<◌, ◌≤◌, List, length, Some, None, Result, Ok, Err, ◌⊎◌}
 use Rattle.request_elements.specs.Body.{HasElements, IsMalformed}
 use Rattle.select_request.specs.Checks.{first_fault}
 use Rattle.select_request.specs.Request.{request_from}

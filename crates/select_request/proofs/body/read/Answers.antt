@@ -1,4 +1,4 @@
-use Rattle.std.specs.Prelude.{◌≡◌, ◌≤◌, length}
+use Rattle.std.specs.Prelude.{◌≤◌, length}
 use Rattle.std.proofs.Common.{◌∙◌, ap, arith}
 use Rattle.select_request.specs.Reading.{longest_body}
 use Rattle.select_request.proofs.ValidRequests.{spelled_is_valid}

@@ -1,5 +1,5 @@
-use Rattle.std.specs.Prelude.{◌≡◌, ℕ, ◌+◌, ◌-◌, ◌<◌, true, length, slice_index}
-use Rattle.std.proofs.Common.{arith, sym, ◌∙◌, add-one, rules}
+use Rattle.std.specs.Prelude.{◌≡◌, ◌-◌, ◌<◌, length}
+use Rattle.std.proofs.Common.{arith}
 use Rattle.std.proofs.lemmas.Str.{IsCharBoundary-after_ascii}
 use Rattle.select_request.proofs.Escaping.{cut_none, special_at, cut_at}
 use Rattle.select_request.proofs.printer.cut_at_special.Goals as goal
