@@ -1,6 +1,6 @@
 -- Escaping a text from one special byte to the next.
-use Rattle.std.specs.Prelude.{◌≡◌, ℕ, zero, suc, ◌+◌, ◌<◌, ◌≤◌, Bool, true, false, ◌||◌, ◌==◌, List, [], ◌∷◌, ◌++◌, length, take, drop, codes, slice_index, if◌then◌else◌, refl}
-use Rattle.std.proofs.Common.{sym, ◌∙◌, ap, subst, arith, add-one, get_or}
+use Rattle.std.specs.Prelude.{◌≡◌, ℕ, zero, suc, ◌+◌, ◌<◌, Bool, true, false, ◌||◌, ◌==◌, List, [], ◌∷◌, ◌++◌, length, take, drop, codes, slice_index, if◌then◌else◌, refl}
+use Rattle.std.proofs.Common.{◌∙◌, ap, arith, add-one}
 use Rattle.std.proofs.lemmas.Bool.Decides.{nat_tests}
 use Rattle.memchr.specs.Find.{is_byte3, Nowhere, Passes, NoneBefore}
 use Rattle.select_request.specs.Printed.{escaped_byte, escaped}
@@ -39,7 +39,7 @@ escaped_plain (b ∷ text) none =
 
 -- a text is cut at its first special byte
 pub escaped_cut : (text : List ℕ) (k : ℕ) → k < length text → ((j : ℕ) → j < k → is_special (slice_index text j) ≡ true → ⊥)
-  → escaped text ≡ take k text ++ (escaped_byte (slice_index text k) ++ escaped (drop (suc k) text))
+    → escaped text ≡ take k text ++ (escaped_byte (slice_index text k) ++ escaped (drop (suc k) text))
 escaped_cut [] k within none = absurd (omega arith)
 escaped_cut (b ∷ text) zero within none = refl
 escaped_cut (b ∷ text) (suc k) within none =
@@ -62,7 +62,7 @@ special_at text bytes at is found =
     let found_in = rw is at found in (found_in.0.high, special_is_ascii (slice_index text at) found_in.1)
 
 pub cut_at : (text bytes : List ℕ) (at : ℕ) → bytes ≡ text → IsAt bytes at
-  → escaped text ≡ take at text ++ (escaped_byte (slice_index text at) ++ escaped (drop (at + 1) text))
+    → escaped text ≡ take at text ++ (escaped_byte (slice_index text at) ++ escaped (drop (at + 1) text))
 cut_at text bytes at is found =
     let found_in = rw is at found in
     rw add-one (escaped_cut text at found_in.0.high (λ j before passes. found_in.0.before j (omega arith) before passes))

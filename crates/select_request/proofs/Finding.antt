@@ -1,17 +1,17 @@
 -- Going through the elements found: `==` on elements is the specs' test, and what a step of `find` keeps.
-use Rattle.std.specs.Prelude.{◌≡◌, ℕ, ◌+◌, ◌<◌, Bool, true, false, nat_eq, List, [], ◌∷◌, length, drop, Option, Some, None, if◌then◌else◌, refl}
-use Rattle.std.proofs.Common.{sym, ◌∙◌, ap, get_or, add-one, arith}
+use Rattle.std.specs.Prelude.{◌≡◌, ℕ, ◌+◌, ◌<◌, true, false, nat_eq, List, [], ◌∷◌, length, drop, Some, None, refl}
+use Rattle.std.proofs.Common.{◌∙◌, ap, get_or, add-one, arith}
 use Rattle.std.proofs.Math.Seq.{drop-cons}
 use denote.Enum.Bare.{sameb}
 use denote.Enum.Declared.{tag_of}
-use Rattle.select_request.specs.contracts.element.Element.{the_type}
-use Rattle.select_request.specs.Elements.{number_of, same_element}
+use Rattle.request_elements.specs.contracts.element.Element.{the_type}
+use Rattle.request_elements.specs.Elements.{number_of, same_element}
 use Rattle.select_request.specs.Request.{find}
 use Rattle.select_request.specs.Checks.{is_met, fault_at, first_unmet}
 use Rattle.select_request.specs.declared.checks.Check.{Check}
-use Rattle.select_request.specs.declared.element.Element.{Element}
-use Rattle.select_request.specs.declared.element.Element.TheVariants.{Request, Expression, ExpressionType, RequestProgress, Enabled, InputSerialization, CompressionType, CsvInput, AllowQuotedRecordDelimiter, Comments, InputFieldDelimiter, FileHeaderInfo, InputQuoteCharacter, InputQuoteEscapeCharacter, InputRecordDelimiter, JsonInput, JsonType, ParquetInput, OutputSerialization, CsvOutput, OutputFieldDelimiter, OutputQuoteCharacter, OutputQuoteEscapeCharacter, QuoteFields, CsvRecordDelimiter, JsonOutput, JsonRecordDelimiter, ScanRange, Start, End}
-use Rattle.select_request.specs.declared.found.Found.{Found}
+use Rattle.request_elements.specs.declared.element.Element.{Element}
+use Rattle.request_elements.specs.declared.element.Element.TheVariants.{Request, Expression, ExpressionType, RequestProgress, Enabled, InputSerialization, CompressionType, CsvInput, AllowQuotedRecordDelimiter, Comments, InputFieldDelimiter, FileHeaderInfo, InputQuoteCharacter, InputQuoteEscapeCharacter, InputRecordDelimiter, JsonInput, JsonType, ParquetInput, OutputSerialization, CsvOutput, OutputFieldDelimiter, OutputQuoteCharacter, OutputQuoteEscapeCharacter, QuoteFields, CsvRecordDelimiter, JsonOutput, JsonRecordDelimiter, ScanRange, Start, End}
+use Rattle.request_elements.specs.declared.found.Found.{Found}
 
 tag_is : (e : Element) → tag_of the_type e ≡ number_of e
 tag_is Request = refl
@@ -51,24 +51,24 @@ same_is a b = ap (λ n. nat_eq n (tag_of the_type b)) (tag_is a) ∙ ap (λ n. n
 
 -- the first of the elements from the i-th on, where it is the i-th
 pub find_here : (e : Element) (found : List Found) (i : ℕ) (f : Found) → i < length found → f ≡ get_or found i f → same_element f.element e ≡ true
-  → find e (drop i found) ≡ Some f
+    → find e (drop i found) ≡ Some f
 find_here e found i f within at same = rw (drop-cons found i f within, ← at, same) refl
 
 -- and where it isn't
 pub find_later : (e : Element) (found : List Found) (i : ℕ) (f : Found) → i < length found → f ≡ get_or found i f → same_element f.element e ≡ false
-  → find e (drop i found) ≡ find e (drop (i + 1) found)
+    → find e (drop i found) ≡ find e (drop (i + 1) found)
 find_later e found i f within at same = rw (drop-cons found i f within, ← at, same, add-one) refl
 
 -- ---- the checks
 
 -- the first unmet check of those from the i-th on, where it is the i-th
 pub unmet_here : (found : List Found) (checks : List Check) (i : ℕ) (d : Check) → i < length checks → false ≡ is_met found (get_or checks i d)
-  → first_unmet found (drop i checks) ≡ Some (fault_at found (get_or checks i d))
+    → first_unmet found (drop i checks) ≡ Some (fault_at found (get_or checks i d))
 unmet_here found checks i d within unmet = rw (drop-cons checks i d within, ← unmet) refl
 
 -- and where that is met
 pub unmet_later : (found : List Found) (checks : List Check) (i : ℕ) (d : Check) → i < length checks → true ≡ is_met found (get_or checks i d)
-  → first_unmet found (drop i checks) ≡ first_unmet found (drop (i + 1) checks)
+    → first_unmet found (drop i checks) ≡ first_unmet found (drop (i + 1) checks)
 unmet_later found checks i d within met = rw (drop-cons checks i d within, ← met, add-one) refl
 
 -- ---- an iterator over the elements found

@@ -1,7 +1,3 @@
-pub mod BodyAnswers
-pub mod ByteLaws
-pub mod ChildLaws
-pub mod CutLaws
 pub mod Escaping
 pub mod Finding
 pub mod Lookups
@@ -13,12 +9,8 @@ pub mod PrintedPieces
 pub mod PrintedTree
 pub mod Printing
 pub mod Readback
-pub mod ReaderSteps
-pub mod Readings
 pub mod Recovered
 pub mod Resolved
-pub mod TableLaws
-pub mod TextLaws
 pub mod Trees
 pub mod ValidRequests
 pub mod WholeNumber

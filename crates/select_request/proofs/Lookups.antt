@@ -1,12 +1,12 @@
 -- The elements of a printed body, looked up by element.
-use Rattle.std.specs.Prelude.{◌≡◌, ℕ, ◌+◌, Bool, true, false, List, [], ◌∷◌, ◌++◌, length, Option, None, Some, codes, decimal, if◌then◌else◌, refl}
-use Rattle.std.proofs.Common.{sym, ◌∙◌, ap}
-use Rattle.select_request.specs.Elements.{same_element}
+use Rattle.std.specs.Prelude.{◌≡◌, ℕ, ◌+◌, Bool, true, false, List, [], ◌∷◌, length, Option, None, Some, codes, decimal, if◌then◌else◌, refl}
+use Rattle.std.proofs.Common.{◌∙◌}
+use Rattle.request_elements.specs.Elements.{same_element}
 use Rattle.select_request.specs.Request.{find, text_at, text_in}
 use Rattle.select_request.specs.Printed.{Part, opens, leaf, closes, print_part, truth_text, header_text, quoting_text, delimiter_text, parts_of, found_in, found_of}
-use Rattle.select_request.specs.declared.element.Element.{Element}
-use Rattle.select_request.specs.declared.element.Element.TheVariants.{Request, Expression, ExpressionType, RequestProgress, Enabled, InputSerialization, CompressionType, CsvInput, AllowQuotedRecordDelimiter, Comments, InputFieldDelimiter, FileHeaderInfo, InputQuoteCharacter, InputQuoteEscapeCharacter, InputRecordDelimiter, JsonInput, JsonType, ParquetInput, OutputSerialization, CsvOutput, OutputFieldDelimiter, OutputQuoteCharacter, OutputQuoteEscapeCharacter, QuoteFields, CsvRecordDelimiter, JsonOutput, JsonRecordDelimiter, ScanRange, Start, End}
-use Rattle.select_request.specs.declared.found.Found.{Found}
+use Rattle.request_elements.specs.declared.element.Element.{Element}
+use Rattle.request_elements.specs.declared.element.Element.TheVariants.{Request, Expression, ExpressionType, RequestProgress, Enabled, InputSerialization, CompressionType, CsvInput, AllowQuotedRecordDelimiter, Comments, InputFieldDelimiter, FileHeaderInfo, InputQuoteCharacter, InputQuoteEscapeCharacter, InputRecordDelimiter, JsonInput, JsonType, ParquetInput, OutputSerialization, CsvOutput, OutputFieldDelimiter, OutputQuoteCharacter, OutputQuoteEscapeCharacter, QuoteFields, CsvRecordDelimiter, JsonOutput, JsonRecordDelimiter, ScanRange, Start, End}
+use Rattle.request_elements.specs.declared.found.Found.{Found}
 use Rattle.select_request.specs.declared.request.CsvInput.{CsvInput as CsvInputSettings}
 use Rattle.select_request.specs.declared.request.CsvOutput.{CsvOutput as CsvOutputSettings}
 use Rattle.select_request.specs.declared.request.Delimiter.{Delimiter}
@@ -26,7 +26,7 @@ text_of e (leaf x text ∷ parts) = if same_element x e then Some text else text
 text_of e (closes x ∷ parts) = text_of e parts
 
 one_or_later : (e x : Element) (f : Found) (found : List Found) (later : Option (List ℕ)) → text_in e found ≡ later
-  → text_at (if same_element x e then Some f else find e found) ≡ (if same_element x e then Some f.text else later)
+    → text_at (if same_element x e then Some f else find e found) ≡ (if same_element x e then Some f.text else later)
 one_or_later e x f found later h =
     elim (same_element x e) as (λ b. text_at (if b then Some f else find e found) ≡ (if b then Some f.text else later)) [ true ↦ refl | false ↦ h ]
 
@@ -114,7 +114,7 @@ abbrev pub request_with : List ℕ → Bool → Input → Output → Option Rang
 request_with x p i o g = record { expression = x; progress = p; input = i; output = o; range = g }
 
 text_is : (x : List ℕ) (p : Bool) (i : Input) (o : Output) (g : Option Range) (e : Element)
-  → text_of e (parts_of (request_with x p i o g)) ≡ wanted (request_with x p i o g) e
+    → text_of e (parts_of (request_with x p i o g)) ≡ wanted (request_with x p i o g) e
 unfolding parts_of
 text_is x p (CsvObject csv) (CsvReply out) None Request = refl
 text_is x p (CsvObject csv) (CsvReply out) None e = refl

@@ -1,14 +1,14 @@
 -- A printed body is within the limit.
-use Rattle.std.specs.Prelude.{◌≡◌, ℕ, zero, suc, ◌+◌, ◌*◌, ◌^◌, ◌<◌, ◌≤◌, Bool, true, false, ◌&&◌, not, nat_lt, nat_le, List, [], ◌∷◌, ◌++◌, length, Option, None, Some, codes, decimal, refl}
-use Rattle.std.proofs.Common.{sym, ◌∙◌, ap, arith}
+use Rattle.std.specs.Prelude.{◌≡◌, ℕ, ◌+◌, ◌*◌, ◌^◌, ◌<◌, ◌≤◌, Bool, true, false, ◌&&◌, nat_lt, nat_le, List, [], ◌∷◌, ◌++◌, length, Option, None, Some, decimal}
+use Rattle.std.proofs.Common.{arith}
 use Rattle.std.proofs.lemmas.Bool.Decides.{nat_tests}
 use Rattle.std.proofs.lemmas.Fmt.{length-decimal-le}
 use Rattle.std.proofs.Math.ListN.{length-append}
-use Rattle.select_request.specs.Elements.{name_of}
+use Rattle.request_elements.specs.Elements.{name_of}
 use Rattle.select_request.specs.Printed.{Part, opens, leaf, closes, escaped_byte, escaped, truth_text, header_text, quoting_text, delimiter_text, start_tag, end_tag, print_part, print_parts, input_parts, output_parts, range_parts, settings_parts, parts_of, printed}
-use Rattle.select_request.specs.Printable.{is_expression, is_range, allows_range, is_range_of, is_printable}
-use Rattle.select_request.specs.declared.element.Element.{Element}
-use Rattle.select_request.specs.declared.element.Element.TheVariants.{Request, Expression, ExpressionType, RequestProgress, Enabled, InputSerialization, CompressionType, CsvInput, AllowQuotedRecordDelimiter, Comments, InputFieldDelimiter, FileHeaderInfo, InputQuoteCharacter, InputQuoteEscapeCharacter, InputRecordDelimiter, JsonInput, JsonType, ParquetInput, OutputSerialization, CsvOutput, OutputFieldDelimiter, OutputQuoteCharacter, OutputQuoteEscapeCharacter, QuoteFields, CsvRecordDelimiter, JsonOutput, JsonRecordDelimiter, ScanRange, Start, End}
+use Rattle.select_request.specs.Printable.{is_expression, allows_range, is_range_of, is_printable}
+use Rattle.request_elements.specs.declared.element.Element.{Element}
+use Rattle.request_elements.specs.declared.element.Element.TheVariants.{Request, Expression, ExpressionType, RequestProgress, Enabled, InputSerialization, CompressionType, CsvInput, AllowQuotedRecordDelimiter, Comments, InputFieldDelimiter, FileHeaderInfo, InputQuoteCharacter, InputQuoteEscapeCharacter, InputRecordDelimiter, JsonInput, JsonType, ParquetInput, OutputSerialization, CsvOutput, OutputFieldDelimiter, OutputQuoteCharacter, OutputQuoteEscapeCharacter, QuoteFields, CsvRecordDelimiter, JsonOutput, JsonRecordDelimiter, ScanRange, Start, End}
 use Rattle.select_request.specs.declared.request.Delimiter.{Delimiter}
 use Rattle.select_request.specs.declared.request.Delimiter.TheVariants.{One, Two}
 use Rattle.select_request.specs.declared.request.Header.{Header}
@@ -20,7 +20,7 @@ use Rattle.select_request.specs.declared.request.Output.TheVariants.{Csv as CsvR
 use Rattle.select_request.specs.declared.request.ScanRange.{ScanRange as Range}
 use Rattle.select_request.specs.declared.request.ScanRange.TheVariants.{Between, From, Last}
 use Rattle.select_request.specs.declared.request.SelectRequest.{SelectRequest}
-use Rattle.select_request.proofs.Printables.{and_left, and_right, Printable, printable}
+use Rattle.select_request.proofs.Printables.{and_left, and_right, printable}
 use Rattle.select_request.proofs.Readback.{less, at_most_less}
 use Rattle.select_request.proofs.Resolved.{by_special}
 
@@ -156,5 +156,12 @@ unfolding parts_of
 printed_bound r h =
     let p = printable r h in
     let last = closes Request ∷ [] in
-    omega (arith, parts_bound (parts_of r), weigh-append (settings_parts r) (range_parts r.range ++ last), weigh-append (range_parts r.range) last,
-      settings_bound r, range_bound r.input r.range p.range, expression_bound r.expression p.expression)
+    omega (
+      arith,
+      parts_bound (parts_of r),
+      weigh-append (settings_parts r) (range_parts r.range ++ last),
+      weigh-append (range_parts r.range) last,
+      settings_bound r,
+      range_bound r.input r.range p.range,
+      expression_bound r.expression p.expression,
+    )

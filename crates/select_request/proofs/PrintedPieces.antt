@@ -1,15 +1,13 @@
 -- The pieces of a printed body.
-use Rattle.std.specs.Prelude.{◌≡◌, ℕ, zero, suc, ◌+◌, Bool, true, false, ◌||◌, ◌==◌, List, [], ◌∷◌, ◌++◌, length, if◌then◌else◌, refl}
-use Rattle.std.specs.List.{list_any}
+use Rattle.std.specs.Prelude.{◌≡◌, ℕ, suc, ◌+◌, Bool, true, false, ◌||◌, ◌==◌, List, [], ◌∷◌, ◌++◌, length, if◌then◌else◌, refl}
 use Rattle.std.proofs.Common.{sym, ◌∙◌, ap, arith, append_assoc}
 use Rattle.std.proofs.lemmas.Bool.{eq-eqb, or_parts}
-use Rattle.std.proofs.lemmas.List.{append-nil}
 use Rattle.std.proofs.Math.ListN.{length-append}
-use Rattle.select_request.specs.Elements.{name_of}
-use Rattle.select_request.specs.Pieces.{Piece, start_tag, end_tag, char_data, unfit, Symbol, has, up_to, tag, is_declaration, named, namespace, piece_from, further, cut_behind, cut, symbols_of}
+use Rattle.request_elements.specs.Elements.{name_of}
+use Rattle.request_elements.specs.Pieces.{Piece, start_tag, end_tag, char_data, Symbol, has, up_to, tag, is_declaration, named, namespace, cut_behind, cut, symbols_of}
 use Rattle.select_request.specs.Printed.{Part, opens, leaf, closes, escaped, start_tag as start_bytes, end_tag as end_bytes, print_part, print_parts}
-use Rattle.select_request.specs.declared.element.Element.{Element}
-use Rattle.select_request.specs.declared.element.Element.TheVariants.{Request, Expression, ExpressionType, RequestProgress, Enabled, InputSerialization, CompressionType, CsvInput, AllowQuotedRecordDelimiter, Comments, InputFieldDelimiter, FileHeaderInfo, InputQuoteCharacter, InputQuoteEscapeCharacter, InputRecordDelimiter, JsonInput, JsonType, ParquetInput, OutputSerialization, CsvOutput, OutputFieldDelimiter, OutputQuoteCharacter, OutputQuoteEscapeCharacter, QuoteFields, CsvRecordDelimiter, JsonOutput, JsonRecordDelimiter, ScanRange, Start, End}
+use Rattle.request_elements.specs.declared.element.Element.{Element}
+use Rattle.request_elements.specs.declared.element.Element.TheVariants.{Request, Expression, ExpressionType, RequestProgress, Enabled, InputSerialization, CompressionType, CsvInput, AllowQuotedRecordDelimiter, Comments, InputFieldDelimiter, FileHeaderInfo, InputQuoteCharacter, InputQuoteEscapeCharacter, InputRecordDelimiter, JsonInput, JsonType, ParquetInput, OutputSerialization, CsvOutput, OutputFieldDelimiter, OutputQuoteCharacter, OutputQuoteEscapeCharacter, QuoteFields, CsvRecordDelimiter, JsonOutput, JsonRecordDelimiter, ScanRange, Start, End}
 use Rattle.select_request.proofs.Resolved.{escaped_without_less}
 
 -- ---- the pieces of parts
@@ -64,23 +62,23 @@ has_there byte (x ∷ xs) ys = or_true (x == byte) (has byte (xs ++ byte ∷ ys)
 
 -- a tag
 tag_cut : (at : ℕ) (inside rest : List ℕ) → has 62 inside ≡ false
-  → cut_behind 0 at (60 ∷ (inside ++ 62 ∷ rest)) ≡ symbol at (tag inside) ∷ cut_behind 0 (at + (length inside + 2)) rest
+    → cut_behind 0 at (60 ∷ (inside ++ 62 ∷ rest)) ≡ symbol at (tag inside) ∷ cut_behind 0 (at + (length inside + 2)) rest
 tag_cut at inside rest h =
     let there = has_there 62 inside rest in
     let upto = up_to_first 62 inside rest h in
     let count : length (inside ++ 62 ∷ []) ≡ length inside + 1 = length-append inside (62 ∷ []) in
     let place : at + 1 + (length inside + 1) ≡ at + (length inside + 2) = omega arith in
     let behind : cut_behind (length inside + 1) (at + 1) (inside ++ 62 ∷ rest) ≡ cut_behind 0 (at + (length inside + 2)) rest =
-        ap (λ n. cut_behind n (at + 1) (inside ++ 62 ∷ rest)) (sym count)
-        ∙ ap (λ t. cut_behind (length (inside ++ 62 ∷ [])) (at + 1) t) (sym (append_assoc inside (62 ∷ []) rest))
-        ∙ skip_all (inside ++ 62 ∷ []) rest (at + 1)
-        ∙ ap (λ n. cut_behind 0 (at + 1 + n) rest) count
-        ∙ ap (λ n. cut_behind 0 n rest) place in
+    ap (λ n. cut_behind n (at + 1) (inside ++ 62 ∷ rest)) (sym count)
+    ∙ ap (λ t. cut_behind (length (inside ++ 62 ∷ [])) (at + 1) t) (sym (append_assoc inside (62 ∷ []) rest))
+    ∙ skip_all (inside ++ 62 ∷ []) rest (at + 1)
+    ∙ ap (λ n. cut_behind 0 (at + 1 + n) rest) count
+    ∙ ap (λ n. cut_behind 0 n rest) place in
     rw (there, upto) (ap (λ t. symbol at (tag inside) ∷ t) behind)
 
 -- what stands between two tags
 raw_cut : (at : ℕ) (raw more : List ℕ) → has 60 raw ≡ false
-  → cut_behind 0 at (raw ++ 60 ∷ more) ≡ raw_symbols at raw ++ cut_behind 0 (at + length raw) (60 ∷ more)
+    → cut_behind 0 at (raw ++ 60 ∷ more) ≡ raw_symbols at raw ++ cut_behind 0 (at + length raw) (60 ∷ more)
 raw_cut at [] more h = let e : at + 0 ≡ at = omega arith in rw e refl
 raw_cut at (b ∷ raw) more h =
     let parts = or_parts (b == 60) (has 60 raw) h in
@@ -189,7 +187,7 @@ tag_end Start = refl
 tag_end End = refl
 
 cut_start : (at : ℕ) (e : Element) (rest : List ℕ)
-  → cut_behind 0 at (start_bytes e ++ rest) ≡ symbol at (start_tag (name_of e)) ∷ cut_behind 0 (at + length (start_bytes e)) rest
+    → cut_behind 0 at (start_bytes e ++ rest) ≡ symbol at (start_tag (name_of e)) ∷ cut_behind 0 (at + length (start_bytes e)) rest
 unfolding start_bytes
 cut_start at e rest =
     let count : suc (length (name_of e ++ 62 ∷ [])) ≡ length (name_of e) + 2 = omega (arith, length-append (name_of e) (62 ∷ [])) in
@@ -199,7 +197,7 @@ cut_start at e rest =
     ∙ ap (λ n. symbol at (start_tag (name_of e)) ∷ cut_behind 0 (at + n) rest) (sym count)
 
 cut_end : (at : ℕ) (e : Element) (rest : List ℕ)
-  → cut_behind 0 at (end_bytes e ++ rest) ≡ symbol at (end_tag (name_of e)) ∷ cut_behind 0 (at + length (end_bytes e)) rest
+    → cut_behind 0 at (end_bytes e ++ rest) ≡ symbol at (end_tag (name_of e)) ∷ cut_behind 0 (at + length (end_bytes e)) rest
 unfolding end_bytes
 cut_end at e rest =
     let count : suc (suc (length (name_of e ++ 62 ∷ []))) ≡ suc (length (name_of e)) + 2 = omega (arith, length-append (name_of e) (62 ∷ [])) in
@@ -214,7 +212,7 @@ unfolding end_bytes
 end_begins e rest = refl
 
 raw_end : (at : ℕ) (e : Element) (raw rest : List ℕ) → has 60 raw ≡ false
-  → cut_behind 0 at (raw ++ (end_bytes e ++ rest))
+    → cut_behind 0 at (raw ++ (end_bytes e ++ rest))
     ≡ raw_symbols at raw ++ (symbol (at + length raw) (end_tag (name_of e)) ∷ cut_behind 0 (at + length raw + length (end_bytes e)) rest)
 raw_end at e raw rest h =
     ap (λ t. cut_behind 0 at (raw ++ t)) (end_begins e rest)
@@ -223,7 +221,7 @@ raw_end at e raw rest h =
     ∙ ap (λ t. raw_symbols at raw ++ t) (cut_end (at + length raw) e rest)
 
 cut_leaf : (at : ℕ) (e : Element) (raw rest : List ℕ) → has 60 raw ≡ false
-  → cut_behind 0 at ((start_bytes e ++ raw ++ end_bytes e) ++ rest)
+    → cut_behind 0 at ((start_bytes e ++ raw ++ end_bytes e) ++ rest)
     ≡ leaf_symbols at e raw ++ cut_behind 0 (at + length (start_bytes e ++ raw ++ end_bytes e)) rest
 cut_leaf at e raw rest h =
     let s = start_bytes e in
@@ -234,12 +232,12 @@ cut_leaf at e raw rest h =
     ap (λ t. cut_behind 0 at t) bytes
     ∙ cut_start at e (raw ++ (z ++ rest))
     ∙ ap (λ t. symbol at (start_tag (name_of e)) ∷ t)
-        (raw_end (at + length s) e raw rest h
-        ∙ sym (append_assoc (raw_symbols (at + length s) raw) (last ∷ []) (cut_behind 0 (at + length s + length raw + length z) rest))
-        ∙ ap (λ n. (raw_symbols (at + length s) raw ++ last ∷ []) ++ cut_behind 0 n rest) count)
+    (raw_end (at + length s) e raw rest h
+    ∙ sym (append_assoc (raw_symbols (at + length s) raw) (last ∷ []) (cut_behind 0 (at + length s + length raw + length z) rest))
+    ∙ ap (λ n. (raw_symbols (at + length s) raw ++ last ∷ []) ++ cut_behind 0 n rest) count)
 
 cut_part : (part : Part) (at : ℕ) (rest : List ℕ) (parts : List Part) → cut_behind 0 (at + length (print_part part)) rest ≡ symbols_in (at + length (print_part part)) parts
-  → cut_behind 0 at (print_part part ++ rest) ≡ symbols_in at (part ∷ parts)
+    → cut_behind 0 at (print_part part ++ rest) ≡ symbols_in at (part ∷ parts)
 unfolding print_part
 cut_part (opens e) at rest parts h = cut_start at e rest ∙ ap (λ t. symbol at (start_tag (name_of e)) ∷ t) h
 cut_part (closes e) at rest parts h = cut_end at e rest ∙ ap (λ t. symbol at (end_tag (name_of e)) ∷ t) h

@@ -1,22 +1,21 @@
 -- A printed body is spelled by the grammar for the elements of its request.
-use Rattle.std.specs.Prelude.{◌≡◌, ℕ, ◌+◌, ◌^◌, ◌<◌, Bool, true, false, ◌&&◌, ◌||◌, not, ◌==◌, nat_lt, nat_le, List, [], ◌∷◌, ◌++◌, length, Option, None, Some, codes, decimal, IsUtf8, refl}
-use Rattle.std.specs.List.{list_any, list_all}
+use Rattle.std.specs.Prelude.{◌≡◌, ℕ, ◌^◌, ◌<◌, Bool, true, false, ◌&&◌, not, ◌==◌, nat_lt, nat_le, List, [], ◌∷◌, length, Option, None, Some, codes, decimal, IsUtf8, refl}
+use Rattle.std.specs.List.{list_all}
 use Rattle.std.specs.Str.{all_ascii_digits}
 use Rattle.std.specs.Char.{is_ascii_digit}
-use Rattle.std.proofs.Common.{sym, ◌∙◌, ap, subst, arith}
+use Rattle.std.proofs.Common.{sym, subst, arith}
 use Rattle.std.proofs.lemmas.Bool.{or_from}
 use Rattle.std.proofs.lemmas.Bool.Decides.{nat_tests}
 use Rattle.std.proofs.lemmas.List.{append-nil}
 use Rattle.std.proofs.lemmas.Fmt.{digits_decimal}
-use Rattle.select_request.specs.Pieces.{Symbol, has, symbols_of}
-use Rattle.select_request.specs.TextValue.{text_value}
-use Rattle.select_request.specs.Grammar.{blanks, element_within, request_body}
+use Rattle.request_elements.specs.Pieces.{Symbol, has, symbols_of}
+use Rattle.request_elements.specs.TextValue.{text_value}
+use Rattle.request_elements.specs.Grammar.{element_within, request_body}
 use Rattle.select_request.specs.Values.{is_character}
-use Rattle.select_request.specs.Printable.{is_delimiter, is_one, is_csv_input, is_csv_output, is_input, is_output, is_range, allows_range, is_range_of, is_expression, is_printable}
-use Rattle.select_request.specs.Printed.{Part, opens, leaf, closes, escaped, truth_text, header_text, quoting_text, delimiter_text, parts_of, print_parts, printed, found_in, found_of}
-use Rattle.select_request.specs.declared.element.Element.{Element}
-use Rattle.select_request.specs.declared.element.Element.TheVariants.{Request, Expression, ExpressionType, RequestProgress, Enabled, InputSerialization, CompressionType, CsvInput, AllowQuotedRecordDelimiter, Comments, InputFieldDelimiter, FileHeaderInfo, InputQuoteCharacter, InputQuoteEscapeCharacter, InputRecordDelimiter, JsonInput, JsonType, ParquetInput, OutputSerialization, CsvOutput, OutputFieldDelimiter, OutputQuoteCharacter, OutputQuoteEscapeCharacter, QuoteFields, CsvRecordDelimiter, JsonOutput, JsonRecordDelimiter, ScanRange, Start, End}
-use Rattle.select_request.specs.declared.found.Found.{Found}
+use Rattle.select_request.specs.Printable.{is_delimiter, is_input, is_output, allows_range, is_range_of, is_expression, is_printable}
+use Rattle.select_request.specs.Printed.{Part, escaped, truth_text, header_text, quoting_text, delimiter_text, parts_of, printed, found_in, found_of}
+use Rattle.request_elements.specs.declared.element.Element.TheVariants.{Request, Expression, ExpressionType, RequestProgress, Enabled, InputSerialization, CompressionType, CsvInput, AllowQuotedRecordDelimiter, Comments, InputFieldDelimiter, FileHeaderInfo, InputQuoteCharacter, InputQuoteEscapeCharacter, InputRecordDelimiter, JsonInput, JsonType, ParquetInput, OutputSerialization, CsvOutput, OutputFieldDelimiter, OutputQuoteCharacter, OutputQuoteEscapeCharacter, QuoteFields, CsvRecordDelimiter, JsonOutput, JsonRecordDelimiter, ScanRange, Start, End}
+use Rattle.request_elements.specs.declared.found.Found.{Found}
 use Rattle.select_request.specs.declared.request.CsvInput.{CsvInput as CsvInputSettings}
 use Rattle.select_request.specs.declared.request.CsvOutput.{CsvOutput as CsvOutputSettings}
 use Rattle.select_request.specs.declared.request.Delimiter.{Delimiter}
@@ -36,7 +35,7 @@ use Rattle.select_request.proofs.PrintedPieces.{symbols_in, symbols_of_parts}
 use Rattle.select_request.proofs.Readback.{less, at_most_less}
 use Rattle.select_request.proofs.Recovered.{CsvInputHolds, csv_input_holds, CsvOutputHolds, csv_output_holds}
 use Rattle.select_request.proofs.Resolved.{ascii_is_utf8, text_value_escaped}
-use Rattle.select_request.proofs.Trees.{Tree, with_text, node, Trees, none, tree, root_of, tree_parts, is_tree, TreeReads, TreesRead, no_blanks, tree_spelled}
+use Rattle.select_request.proofs.Trees.{Tree, with_text, node, Trees, none, tree, tree_parts, is_tree, TreeReads, TreesRead, no_blanks, tree_spelled}
 use Rattle.select_request.proofs.WholeNumber.{own}
 
 -- ---- the tree of a request
@@ -182,9 +181,19 @@ decimal_reads : (n : ℕ) → n < 2 ^ 63 → text_value (escaped (decimal n)) �
 decimal_reads n h = let below : n < 2 ^ 64 = omega arith in characters_read (decimal n) (digits_are_characters (decimal n) (digits_decimal own n below))
 
 csv_input_reads : (csv : CsvInputSettings) → CsvInputHolds csv → TreeReads (csv_input_tree csv)
-csv_input_reads csv h =
-    (truth_reads csv.quoted_delimiters, (character_reads csv.comment h.comment, (character_reads csv.field h.field, (header_reads csv.header,
-    (character_reads csv.quote h.quote, (character_reads csv.escape h.escape, (delimiter_reads csv.delimiter h.delimiter, tt)))))))
+csv_input_reads csv h = (
+  truth_reads csv.quoted_delimiters,
+  (
+    character_reads csv.comment h.comment,
+    (
+      character_reads csv.field h.field,
+      (
+        header_reads csv.header,
+        (character_reads csv.quote h.quote, (character_reads csv.escape h.escape, (delimiter_reads csv.delimiter h.delimiter, tt))),
+      ),
+    ),
+  ),
+)
 
 input_reads : (i : Input) → is_input i ≡ true → TreeReads (input_tree i)
 input_reads (CsvObject csv) h = csv_input_reads csv (csv_input_holds csv h)
@@ -192,9 +201,16 @@ input_reads JsonLines h = (characters_read (codes "LINES") refl, tt)
 input_reads Parquet h = tt
 
 csv_output_reads : (csv : CsvOutputSettings) → CsvOutputHolds csv → TreeReads (csv_output_tree csv)
-csv_output_reads csv h =
-    (character_reads csv.field h.field, (character_reads csv.quote h.quote, (character_reads csv.escape h.escape,
-    (quoting_reads csv.always, (delimiter_reads csv.delimiter h.delimiter, tt)))))
+csv_output_reads csv h = (
+  character_reads csv.field h.field,
+  (
+    character_reads csv.quote h.quote,
+    (
+      character_reads csv.escape h.escape,
+      (quoting_reads csv.always, (delimiter_reads csv.delimiter h.delimiter, tt)),
+    ),
+  ),
+)
 
 output_reads : (o : Output) → is_output o ≡ true → TreeReads (output_tree o)
 output_reads (CsvReply csv) h = csv_output_reads csv (csv_output_holds csv h)
@@ -220,19 +236,39 @@ expression_reads : (x : List ℕ) → IsUtf8 x → is_expression x ≡ true → 
 expression_reads x u h = text_value_escaped x u (not_true_is_false (has 0 x) (and_right (nat_le (length x) 262144) (not (has 0 x)) h))
 
 tree_reads : (r : SelectRequest) → IsUtf8 r.expression → Printable r → TreeReads (tree_of r)
-tree_reads r u h =
-    (expression_reads r.expression u h.expression, (characters_read (codes "SQL") refl, ((truth_reads r.progress, tt),
-    ((characters_read (codes "NONE") refl, (input_reads r.input h.input, tt)), ((output_reads r.output h.output, tt),
-    range_reads r.input r.range h.range)))))
+tree_reads r u h = (
+  expression_reads r.expression u h.expression,
+  (
+    characters_read (codes "SQL") refl,
+    (
+      (truth_reads r.progress, tt),
+      (
+        (characters_read (codes "NONE") refl, (input_reads r.input h.input, tt)),
+        (
+          (output_reads r.output h.output, tt),
+          range_reads r.input r.range h.range,
+        ),
+      ),
+    ),
+  ),
+)
 
 -- ---- the body
 
 body_spelled : (found : List Found) (symbols : List Symbol) → (element_within 3 Request).Spells found symbols → request_body.Spells found symbols
 unfolding request_body
 body_spelled found symbols w = record {
-  value = None; left = []; right = symbols; joined = refl; whole = (false, (refl, refl));
+  value = None;
+  left = [];
+  right = symbols;
+  joined = refl;
+  whole = (false, (refl, refl));
   after = record {
-    value = None; left = []; right = symbols; joined = refl; whole = no_blanks;
+    value = None;
+    left = [];
+    right = symbols;
+    joined = refl;
+    whole = no_blanks;
     after = record { value = found; left = symbols; right = []; joined = sym (append-nil symbols); whole = w; after = (None, refl, no_blanks) };
   };
 }

@@ -1,5 +1,5 @@
 -- A printed body spells its request.
-use Rattle.std.specs.Prelude.{◌≡◌, List, ℕ, IsUtf8, true, refl}
+use Rattle.std.specs.Prelude.{◌≡◌, List, ℕ, IsUtf8, true}
 use Rattle.std.proofs.Common.{sym}
 use Rattle.select_request.specs.Printable.{is_printable}
 use Rattle.select_request.specs.Printed.{printed, found_of}

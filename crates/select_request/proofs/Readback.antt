@@ -1,11 +1,11 @@
 -- Each value is read back from its text.
-use Rattle.std.specs.Prelude.{◌≡◌, ℕ, ◌^◌, ◌<◌, ◌≤◌, Bool, true, false, nat_lt, nat_le, ◌&&◌, ◌==◌, List, [], ◌∷◌, length, Option, None, Some, decimal, if◌then◌else◌, refl}
-use Rattle.std.proofs.Common.{sym, ◌∙◌, ap, arith}
+use Rattle.std.specs.Prelude.{◌≡◌, ℕ, ◌^◌, ◌<◌, Bool, true, false, nat_lt, nat_le, ◌&&◌, ◌==◌, List, [], ◌∷◌, length, None, Some, decimal, if◌then◌else◌, refl}
+use Rattle.std.proofs.Common.{arith}
 use Rattle.std.proofs.lemmas.Bool.Decides.{nat_tests}
 use Rattle.std.proofs.lemmas.Fmt.{digits_value-decimal, digits_decimal, decimal_nonempty}
 use Rattle.std.specs.Str.{all_ascii_digits}
 use Rattle.std.specs.Str.Parse.{digits_value}
-use Rattle.select_request.specs.Values.{is_word, is_character, is_digits, truth_of, header_of, quoting_of, character_of, one_of, one_or_two_of, whole_number_of, between, from_start, last_bytes, range_of}
+use Rattle.select_request.specs.Values.{is_word, is_character, is_digits, truth_of, header_of, quoting_of, character_of, one_of, one_or_two_of, whole_number_of, range_of}
 use Rattle.select_request.specs.Printed.{truth_text, header_text, quoting_text, delimiter_text}
 use Rattle.select_request.specs.Printable.{is_delimiter, is_one, is_range}
 use Rattle.select_request.proofs.Printables.{and_left, and_right}

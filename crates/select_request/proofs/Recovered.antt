@@ -1,5 +1,5 @@
 -- The elements of a printed body pass all checks, and spell the request.
-use Rattle.std.specs.Prelude.{◌≡◌, ℕ, ◌+◌, Bool, true, false, nat_lt, ◌&&◌, not, List, [], ◌∷◌, Option, None, Some, is_some, unwrap_or, codes, if◌then◌else◌, refl}
+use Rattle.std.specs.Prelude.{◌≡◌, ℕ, ◌+◌, Bool, true, false, nat_lt, ◌&&◌, not, List, [], ◌∷◌, Option, None, Some, is_some, unwrap_or, if◌then◌else◌, refl}
 use Rattle.std.proofs.Common.{sym, ◌∙◌, ap, subst}
 use Rattle.select_request.specs.Values.{is_word, is_character, truth_of, header_of, quoting_of, character_of, one_of, one_or_two_of, range_of, input_is_apart, output_is_apart}
 use Rattle.select_request.specs.Request.{text_in, value_at, comma, double_quote, number_sign, line_feed, request_from}
@@ -8,14 +8,12 @@ use Rattle.select_request.specs.Printed.{truth_text, header_text, quoting_text, 
 use Rattle.select_request.specs.Printable.{is_delimiter, is_one, is_csv_input, is_csv_output, is_input, is_output, is_range, allows_range, is_range_of, is_printable}
 use Rattle.select_request.specs.declared.checks.Check.{Check}
 use Rattle.select_request.specs.declared.checks.Check.TheVariants.{Holds, Fits, HasFormat, HasOneFormat, InputIsApart, OutputIsApart, IsRange, AllowsRange}
-use Rattle.select_request.specs.declared.element.Element.{Element}
-use Rattle.select_request.specs.declared.element.Element.TheVariants.{Request, Expression, ExpressionType, RequestProgress, Enabled, InputSerialization, CompressionType, CsvInput, AllowQuotedRecordDelimiter, Comments, InputFieldDelimiter, FileHeaderInfo, InputQuoteCharacter, InputQuoteEscapeCharacter, InputRecordDelimiter, JsonInput, JsonType, ParquetInput, OutputSerialization, CsvOutput, OutputFieldDelimiter, OutputQuoteCharacter, OutputQuoteEscapeCharacter, QuoteFields, CsvRecordDelimiter, JsonOutput, JsonRecordDelimiter, ScanRange, Start, End}
-use Rattle.select_request.specs.declared.found.Found.{Found}
+use Rattle.request_elements.specs.declared.element.Element.{Element}
+use Rattle.request_elements.specs.declared.element.Element.TheVariants.{Expression, Enabled, InputSerialization, CsvInput, AllowQuotedRecordDelimiter, Comments, InputFieldDelimiter, FileHeaderInfo, InputQuoteCharacter, InputQuoteEscapeCharacter, InputRecordDelimiter, JsonInput, JsonType, ParquetInput, OutputSerialization, CsvOutput, OutputFieldDelimiter, OutputQuoteCharacter, OutputQuoteEscapeCharacter, QuoteFields, CsvRecordDelimiter, JsonOutput, JsonRecordDelimiter, ScanRange, Start, End}
+use Rattle.request_elements.specs.declared.found.Found.{Found}
 use Rattle.select_request.specs.declared.request.CsvInput.{CsvInput as CsvInputSettings}
 use Rattle.select_request.specs.declared.request.CsvOutput.{CsvOutput as CsvOutputSettings}
-use Rattle.select_request.specs.declared.request.Delimiter.{Delimiter}
 use Rattle.select_request.specs.declared.request.Delimiter.TheVariants.{One}
-use Rattle.select_request.specs.declared.request.Header.{Header}
 use Rattle.select_request.specs.declared.request.Header.TheVariants.{Without}
 use Rattle.select_request.specs.declared.request.Input.{Input}
 use Rattle.select_request.specs.declared.request.Input.TheVariants.{Csv as CsvObject, JsonLines, Parquet}
@@ -23,7 +21,7 @@ use Rattle.select_request.specs.declared.request.Output.{Output}
 use Rattle.select_request.specs.declared.request.Output.TheVariants.{Csv as CsvReply, Json}
 use Rattle.select_request.specs.declared.request.ScanRange.{ScanRange as Range}
 use Rattle.select_request.specs.declared.request.SelectRequest.{SelectRequest}
-use Rattle.select_request.proofs.Lookups.{wanted, found_is, funext, of_csv_input, of_csv_output, of_json_output, of_start, of_end}
+use Rattle.select_request.proofs.Lookups.{wanted, found_is, funext}
 use Rattle.select_request.proofs.Printables.{and_left, and_right, Printable, printable}
 use Rattle.select_request.proofs.Readback.{truth_read, header_read, quoting_read, character_read, one_read, one_or_two_read, range_read}
 
@@ -135,8 +133,12 @@ csv_input_holds csv h =
     let h3 = and_left (c && f && q) e h4 in
     let h2 = and_left (c && f) q h3 in
     record {
-      comment = and_left c f h2; field = and_right c f h2; quote = and_right (c && f) q h3; escape = and_right (c && f && q) e h4;
-      delimiter = and_right (c && f && q && e) d h5; one = and_right (c && f && q && e && d) o h6;
+      comment = and_left c f h2;
+      field = and_right c f h2;
+      quote = and_right (c && f) q h3;
+      escape = and_right (c && f && q) e h4;
+      delimiter = and_right (c && f && q && e) d h5;
+      one = and_right (c && f && q && e && d) o h6;
       apart = and_right (c && f && q && e && d && o) (input_is_apart csv) h;
     }
 
@@ -157,8 +159,11 @@ csv_output_holds csv h =
     let h3 = and_left (f && q && e) d h4 in
     let h2 = and_left (f && q) e h3 in
     record {
-      field = and_left f q h2; quote = and_right f q h2; escape = and_right (f && q) e h3;
-      delimiter = and_right (f && q && e) d h4; apart = and_right (f && q && e && d) (output_is_apart csv) h;
+      field = and_left f q h2;
+      quote = and_right f q h2;
+      escape = and_right (f && q) e h3;
+      delimiter = and_right (f && q && e) d h4;
+      apart = and_right (f && q && e && d) (output_is_apart csv) h;
     }
 
 -- a text that is there and is read
@@ -338,16 +343,91 @@ all_met r h =
     let p = r.progress in
     let i = r.input in
     let o = r.output in
-    let g = r.range in
-    (refl, (refl, (refl, (ap is_some (truth_read p), (refl, (refl,
-    (input_format x p o g i, (one_input_format x p o g i,
-    (quoted_fits x p o g i, (comment_fits x p o g i h.input, (input_field_fits x p o g i h.input, (header_fits x p o g i,
-    (input_quote_fits x p o g i h.input, (input_escape_fits x p o g i h.input, (input_delimiter_fits x p o g i h.input,
-    (input_apart x p o g i h.input, (holds_type x p o g i, (type_fits x p o g i,
-    (refl, (output_format x p i g o, (one_output_format x p i g o,
-    (output_field_fits x p i g o h.output, (output_quote_fits x p i g o h.output, (output_escape_fits x p i g o h.output,
-    (quoting_fits x p i g o, (csv_delimiter_fits x p i g o h.output, (output_apart x p i g o h.output, (json_delimiter_fits x p i g o h.output,
-    (range_met x p i o g h.range, (range_allowed x p i o g h.range, tt))))))))))))))))))))))))))))))
+    let g = r.range in (
+      refl,
+      (
+        refl,
+        (
+          refl,
+          (
+            ap is_some (truth_read p),
+            (
+              refl,
+              (
+                refl,
+                (
+                  input_format x p o g i,
+                  (
+                    one_input_format x p o g i,
+                    (
+                      quoted_fits x p o g i,
+                      (
+                        comment_fits x p o g i h.input,
+                        (
+                          input_field_fits x p o g i h.input,
+                          (
+                            header_fits x p o g i,
+                            (
+                              input_quote_fits x p o g i h.input,
+                              (
+                                input_escape_fits x p o g i h.input,
+                                (
+                                  input_delimiter_fits x p o g i h.input,
+                                  (
+                                    input_apart x p o g i h.input,
+                                    (
+                                      holds_type x p o g i,
+                                      (
+                                        type_fits x p o g i,
+                                        (
+                                          refl,
+                                          (
+                                            output_format x p i g o,
+                                            (
+                                              one_output_format x p i g o,
+                                              (
+                                                output_field_fits x p i g o h.output,
+                                                (
+                                                  output_quote_fits x p i g o h.output,
+                                                  (
+                                                    output_escape_fits x p i g o h.output,
+                                                    (
+                                                      quoting_fits x p i g o,
+                                                      (
+                                                        csv_delimiter_fits x p i g o h.output,
+                                                        (
+                                                          output_apart x p i g o h.output,
+                                                          (
+                                                            json_delimiter_fits x p i g o h.output,
+                                                            (range_met x p i o g h.range, (range_allowed x p i o g h.range, tt)),
+                                                          ),
+                                                        ),
+                                                      ),
+                                                    ),
+                                                  ),
+                                                ),
+                                              ),
+                                            ),
+                                          ),
+                                        ),
+                                      ),
+                                    ),
+                                  ),
+                                ),
+                              ),
+                            ),
+                          ),
+                        ),
+                      ),
+                    ),
+                  ),
+                ),
+              ),
+            ),
+          ),
+        ),
+      ),
+    )
 
 -- the elements of a printed body have no fault
 pub printed_passes : (r : SelectRequest) → is_printable r ≡ true → first_fault (found_of r) ≡ None

@@ -1,18 +1,16 @@
 -- An escaped text stands for the text.
-use Rattle.std.specs.Prelude.{◌≡◌, ℕ, zero, suc, ◌+◌, ◌/◌, ◌%◌, ◌<◌, ◌≤◌, Bool, true, false, ◌||◌, ◌&&◌, not, ◌==◌, nat_lt, nat_le, List, [], ◌∷◌, ◌++◌, length, Option, None, Some, option_map, codes, encode_utf8, slice_index, IsUtf8, if◌then◌else◌, cond, refl}
-use Rattle.std.specs.Char.{IsScalar}
+use Rattle.std.specs.Prelude.{◌≡◌, ℕ, zero, suc, ◌+◌, ◌/◌, ◌%◌, ◌<◌, ◌≤◌, Bool, true, false, ◌==◌, nat_lt, List, [], ◌∷◌, ◌++◌, length, Some, codes, slice_index, IsUtf8, if◌then◌else◌, refl}
 use Rattle.std.specs.List.{list_any, list_all}
-use Rattle.std.specs.Str.{is_utf8}
 use Rattle.std.proofs.Common.{sym, ◌∙◌, ap, subst, arith, append_assoc, lit<}
 use Rattle.std.proofs.lemmas.List.{append-nil}
 use Rattle.std.proofs.lemmas.Bool.{eqb-true, ltb-true, or_from, or_parts, cond_both}
 use Rattle.std.proofs.lemmas.List.Folds.{list_any-append}
 use Rattle.select_request.proofs.Printables.{and_left, and_right}
 use Rattle.std.proofs.lemmas.Bool.Decides.{nat_tests}
-use Rattle.std.proofs.lemmas.Str.{IsUtf8-append, IsUtf8-encode, IsUtf8-nil, encode_ascii, is_utf8-from_IsUtf8, encodes-chars, scalars-chars}
+use Rattle.std.proofs.lemmas.Str.{IsUtf8-append, IsUtf8-encode, IsUtf8-nil, encode_ascii, is_utf8-from_IsUtf8}
 use lib.Utf8.{encode, encodes, scalar, scalars}
-use Rattle.select_request.specs.Pieces.{has, up_to}
-use Rattle.select_request.specs.TextValue.{referred, reference_in, then_resolved, resolved_behind, resolved, text_value}
+use Rattle.request_elements.specs.Pieces.{has}
+use Rattle.request_elements.specs.TextValue.{referred, resolved_behind, resolved, text_value}
 use Rattle.select_request.specs.Printed.{escaped_byte, escaped}
 use Rattle.select_request.proofs.Escaping.{is_special, special_is_ascii, escaped_plain}
 
@@ -22,7 +20,7 @@ use Rattle.select_request.proofs.Escaping.{is_special, special_is_ascii, escaped
 module _ (P : ℕ → List ℕ → Type 0) (less : P 60 (codes "&lt;")) (greater : P 62 (codes "&gt;")) (ampersand : P 38 (codes "&amp;"))
     (plain : (b : ℕ) → (b == 60) ≡ false → (b == 62) ≡ false → (b == 38) ≡ false → P b (b ∷ [])) (b : ℕ) where
   by_tests : (x y z : Bool) → (b == 60) ≡ x → (b == 62) ≡ y → (b == 38) ≡ z
-    → P b (if x then codes "&lt;" else if y then codes "&gt;" else if z then codes "&amp;" else b ∷ [])
+      → P b (if x then codes "&lt;" else if y then codes "&gt;" else if z then codes "&amp;" else b ∷ [])
   by_tests true y z ex ey ez = subst (λ (n : ℕ). P n (codes "&lt;")) (sym (eqb-true b 60 ex)) less
   by_tests false true z ex ey ez = subst (λ (n : ℕ). P n (codes "&gt;")) (sym (eqb-true b 62 ey)) greater
   by_tests false false true ex ey ez = subst (λ (n : ℕ). P n (codes "&amp;")) (sym (eqb-true b 38 ez)) ampersand
@@ -102,7 +100,7 @@ ascii_is_utf8 (b ∷ text) h =
 escaped_ascii : (b : ℕ) → b < 128 → IsUtf8 (escaped (b ∷ []))
 escaped_ascii b h = subst IsUtf8 (sym (append-nil (escaped_byte b)))
     (by_special (λ n text. n < 128 → IsUtf8 text) (λ _. ascii_is_utf8 (codes "&lt;") refl) (λ _. ascii_is_utf8 (codes "&gt;") refl) (λ _. ascii_is_utf8 (codes "&amp;") refl)
-      (λ n less greater ampersand k. single n k) b h)
+    (λ n less greater ampersand k. single n k) b h)
 
 abbrev AllHigh : List ℕ → Type 0
 AllHigh text = (k : ℕ) → k < length text → is_special (slice_index text k) ≡ true → ⊥
@@ -131,10 +129,10 @@ encode_high : (c : ℕ) → nat_lt c 128 ≡ false → AllHigh (encode c)
 unfolding encode
 encode_high c h = rw h (
     cond_both (nat_lt c 2048) _ _ AllHigh
-      (λ _. high_cons (192 + c / 64) ((128 + c % 64) ∷ []) (omega arith) (one_left c))
-      (λ _. cond_both (nat_lt c 65536) _ _ AllHigh
-        (λ _. high_cons (224 + c / 4096) ((128 + c / 64 % 64) ∷ (128 + c % 64) ∷ []) (omega arith) (two_left c))
-        (λ _. high_cons (240 + c / 262144) ((128 + c / 4096 % 64) ∷ (128 + c / 64 % 64) ∷ (128 + c % 64) ∷ []) (omega arith) (three_left c))))
+    (λ _. high_cons (192 + c / 64) ((128 + c % 64) ∷ []) (omega arith) (one_left c))
+    (λ _. cond_both (nat_lt c 65536) _ _ AllHigh
+    (λ _. high_cons (224 + c / 4096) ((128 + c / 64 % 64) ∷ (128 + c % 64) ∷ []) (omega arith) (two_left c))
+    (λ _. high_cons (240 + c / 262144) ((128 + c / 4096 % 64) ∷ (128 + c / 64 % 64) ∷ (128 + c % 64) ∷ []) (omega arith) (three_left c))))
 
 escaped_char : (c : ℕ) → scalar c ≡ true → (t : Bool) → nat_lt c 128 ≡ t → IsUtf8 (escaped (encode c))
 escaped_char c h true e = rw (encode_ascii c (ltb-true c 128 e)) (escaped_ascii c (ltb-true c 128 e))
@@ -144,8 +142,8 @@ escaped_chars : (cs : List ℕ) → scalars cs ≡ true → IsUtf8 (escaped (enc
 escaped_chars [] h = IsUtf8-nil
 escaped_chars (c ∷ cs) h =
     subst IsUtf8 (sym (escaped_append (encode c) (encodes cs)))
-      (IsUtf8-append (escaped (encode c)) (escaped (encodes cs)) (escaped_char c (and_left (scalar c) (scalars cs) h) (nat_lt c 128) refl)
-        (escaped_chars cs (and_right (scalar c) (scalars cs) h)))
+    (IsUtf8-append (escaped (encode c)) (escaped (encodes cs)) (escaped_char c (and_left (scalar c) (scalars cs) h) (nat_lt c 128) refl)
+    (escaped_chars cs (and_right (scalar c) (scalars cs) h)))
 
 escaped_utf8 : (text : List ℕ) → IsUtf8 text → IsUtf8 (escaped text)
 escaped_utf8 text h = subst (λ (t : List ℕ). IsUtf8 (escaped t)) h.1.1 (escaped_chars h.0 h.1.0)

@@ -1,16 +1,16 @@
 -- A body as a tree, whose pieces are spelled by the grammar for its elements.
-use Rattle.std.specs.Prelude.{◌≡◌, ℕ, zero, suc, ◌+◌, Bool, true, false, ◌&&◌, not, nat_eq, List, [], ◌∷◌, ◌++◌, length, Option, None, Some, unwrap_or, bytes_eq, if◌then◌else◌, refl}
+use Rattle.std.specs.Prelude.{◌≡◌, ℕ, zero, suc, ◌+◌, Bool, true, false, ◌&&◌, not, nat_eq, List, [], ◌∷◌, ◌++◌, length, None, Some, unwrap_or, bytes_eq, refl}
 use Rattle.std.proofs.Common.{sym, ◌∙◌, ap, subst, arith, append_assoc}
 use Rattle.std.proofs.lemmas.List.{append-nil}
 use Rattle.std.proofs.Math.ListN.{length-append}
-use Rattle.grammar_rules.specs.Rules.{Rule, Verdict, takes, refuses, terminal, token, made, either, optional, sequence, followed_by, preceded_by, ◌&◌, one_of_two, allowed, member, without, some_members, members}
-use Rattle.select_request.specs.Elements.{name_of, is_leaf, is_child, same_element}
-use Rattle.select_request.specs.Pieces.{Piece, start_tag, end_tag, char_data, Symbol}
-use Rattle.select_request.specs.TextValue.{text_value}
-use Rattle.select_request.specs.Grammar.{is_blank_piece, starts_element, ends_element, blanks, start_of, end_of, characters, characters_of, taken, found_alone, joined, leaf as leaf_rule, container, children, element_within}
+use Rattle.grammar_rules.specs.Rules.{Rule, token, followed_by, allowed, without, some_members}
+use Rattle.request_elements.specs.Elements.{name_of, is_leaf, is_child, same_element}
+use Rattle.request_elements.specs.Pieces.{start_tag, end_tag, Symbol}
+use Rattle.request_elements.specs.TextValue.{text_value}
+use Rattle.request_elements.specs.Grammar.{starts_element, ends_element, blanks, start_of, end_of, characters, taken, found_alone, joined, leaf as leaf_rule, container, children, element_within}
 use Rattle.select_request.specs.Printed.{Part, opens, leaf, closes, escaped, start_tag as start_bytes, print_part, print_parts, found_in}
-use Rattle.select_request.specs.declared.element.Element.{Element}
-use Rattle.select_request.specs.declared.found.Found.{Found}
+use Rattle.request_elements.specs.declared.element.Element.{Element}
+use Rattle.request_elements.specs.declared.found.Found.{Found}
 use Rattle.select_request.proofs.Printables.{and_left, and_right}
 use Rattle.std.proofs.lemmas.Str.{IsUtf8-nil}
 use Rattle.select_request.proofs.Resolved.{text_value_escaped}
@@ -150,27 +150,63 @@ leaf_spelled : (e : Element) (at : ℕ) (raw t : List ℕ) → text_value raw �
 leaf_spelled e at raw t h =
     let start = symbol at (start_tag (name_of e)) in
     let middle = raw_symbols (at + length (start_bytes e)) raw in
-    let end = symbol (at + length (start_bytes e) + length raw) (end_tag (name_of e)) in
-    (false, ((start, t), refl, record {
-      value = start; left = start ∷ []; right = middle ++ end ∷ []; joined = refl; whole = start_spelled e at;
-      after = (t, refl, record {
-        value = t; left = middle; right = end ∷ []; joined = refl; whole = characters_spelled (at + length (start_bytes e)) raw t h;
-        after = (end, refl, end_spelled e (at + length (start_bytes e) + length raw));
-      });
-    }))
+    let end = symbol (at + length (start_bytes e) + length raw) (end_tag (name_of e)) in (
+      false,
+      (
+        (start, t),
+        refl,
+        record {
+          value = start;
+          left = start ∷ [];
+          right = middle ++ end ∷ [];
+          joined = refl;
+          whole = start_spelled e at;
+          after = (
+            t,
+            refl,
+            record {
+              value = t;
+              left = middle;
+              right = end ∷ [];
+              joined = refl;
+              whole = characters_spelled (at + length (start_bytes e)) raw t h;
+              after = (end, refl, end_spelled e (at + length (start_bytes e) + length raw));
+            },
+          );
+        },
+      ),
+    )
 
 container_spelled : (e : Element) (C : Rule Symbol ⊥ (List Found)) (at last : ℕ) (found : List Found) (symbols : List Symbol) → C.Spells found symbols
-  → (container e C).Spells (record { element = e; at = at; text = [] } ∷ found) (symbol at (start_tag (name_of e)) ∷ (symbols ++ symbol last (end_tag (name_of e)) ∷ []))
+    → (container e C).Spells (record { element = e; at = at; text = [] } ∷ found) (symbol at (start_tag (name_of e)) ∷ (symbols ++ symbol last (end_tag (name_of e)) ∷ []))
 container_spelled e C at last found symbols h =
     let start = symbol at (start_tag (name_of e)) in
-    let end = symbol last (end_tag (name_of e)) in
-    (false, ((start, found), refl, record {
-      value = start; left = start ∷ []; right = symbols ++ end ∷ []; joined = refl; whole = start_spelled e at;
-      after = (found, refl, record {
-        value = None; left = []; right = symbols ++ end ∷ []; joined = refl; whole = no_blanks;
-        after = record { value = found; left = symbols; right = end ∷ []; joined = refl; whole = h; after = (end, refl, end_spelled e last) };
-      });
-    }))
+    let end = symbol last (end_tag (name_of e)) in (
+      false,
+      (
+        (start, found),
+        refl,
+        record {
+          value = start;
+          left = start ∷ [];
+          right = symbols ++ end ∷ [];
+          joined = refl;
+          whole = start_spelled e at;
+          after = (
+            found,
+            refl,
+            record {
+              value = None;
+              left = [];
+              right = symbols ++ end ∷ [];
+              joined = refl;
+              whole = no_blanks;
+              after = record { value = found; left = symbols; right = end ∷ []; joined = refl; whole = h; after = (end, refl, end_spelled e last) };
+            },
+          );
+        },
+      ),
+    )
 
 -- the rule of an element that stands in this one
 abbrev child_rule : Element → (Element → Rule Symbol ⊥ (List Found)) → Element → Rule Symbol ⊥ (List Found)
@@ -181,25 +217,35 @@ allowed_spelled G true found symbols h w = w
 allowed_spelled G false found symbols h w = absurd (false_is_not_true h)
 
 child_spelled : (parent : Element) (element : Element → Rule Symbol ⊥ (List Found)) (c : Element) (found : List Found) (symbols : List Symbol)
-  → is_child parent c ≡ true → (element c).Spells found symbols → (child_rule parent element c).Spells found symbols
+    → is_child parent c ≡ true → (element c).Spells found symbols → (child_rule parent element c).Spells found symbols
 child_spelled parent element c found symbols h w =
     allowed_spelled (followed_by (element c) blanks) (is_child parent c) found symbols h (record {
-      value = found; left = symbols; right = []; joined = sym (append-nil symbols); whole = w; after = (None, refl, no_blanks);
+      value = found;
+      left = symbols;
+      right = [];
+      joined = sym (append-nil symbols);
+      whole = w;
+      after = (None, refl, no_blanks);
     })
 
 members_end : (parent : Element) (element : Element → Rule Symbol ⊥ (List Found)) (free : Element → Bool) → (some_members same_element (child_rule parent element) 0 free).Spells [] []
 members_end parent element free = (refl, refl)
 
 members_more : (parent : Element) (element : Element → Rule Symbol ⊥ (List Found)) (n : ℕ) (free : Element → Bool) (c : Element) (found : List Found) (symbols : List Symbol)
-  (ms : List (Element × List Found)) (later : List Symbol) → free c ≡ true → is_child parent c ≡ true → (element c).Spells found symbols
-  → (some_members same_element (child_rule parent element) n (without same_element c free)).Spells ms later
-  → (some_members same_element (child_rule parent element) (suc n) free).Spells ((c, found) ∷ ms) (symbols ++ later)
-members_more parent element n free c found symbols ms later is_free child w h =
-    (true, record {
-      value = (c, found); left = symbols; right = later; joined = refl;
-      whole = (c, (found, refl, allowed_spelled (child_rule parent element c) (free c) found symbols is_free (child_spelled parent element c found symbols child w)));
-      after = (ms, refl, h);
-    })
+    (ms : List (Element × List Found)) (later : List Symbol) → free c ≡ true → is_child parent c ≡ true → (element c).Spells found symbols
+    → (some_members same_element (child_rule parent element) n (without same_element c free)).Spells ms later
+    → (some_members same_element (child_rule parent element) (suc n) free).Spells ((c, found) ∷ ms) (symbols ++ later)
+members_more parent element n free c found symbols ms later is_free child w h = (
+  true,
+  record {
+    value = (c, found);
+    left = symbols;
+    right = later;
+    joined = refl;
+    whole = (c, (found, refl, allowed_spelled (child_rule parent element c) (free c) found symbols is_free (child_spelled parent element c found symbols child w)));
+    after = (ms, refl, h);
+  },
+)
 
 -- ---- a tree is spelled
 
@@ -220,13 +266,13 @@ joined_members (tree t ts) at =
     ∙ sym (found_append (tree_parts t) (trees_parts ts) at)
 
 leaf_within : (depth : ℕ) (e : Element) (found : List Found) (symbols : List Symbol) → is_leaf_within depth e ≡ true → (leaf_rule e).Spells found symbols
-  → (element_within depth e).Spells found symbols
+    → (element_within depth e).Spells found symbols
 unfolding element_within
 leaf_within zero e found symbols h w = w
 leaf_within (suc depth) e found symbols h w = rw h w
 
 container_within : (depth : ℕ) (e : Element) (found : List Found) (symbols : List Symbol) → is_leaf e ≡ false
-  → (container e (children e (element_within depth))).Spells found symbols → (element_within (suc depth) e).Spells found symbols
+    → (container e (children e (element_within depth))).Spells found symbols → (element_within (suc depth) e).Spells found symbols
 unfolding element_within
 container_within depth e found symbols h w = rw h w
 
@@ -236,7 +282,7 @@ not_false false h = refl
 
 -- the place at which the parts end, and the end tag behind them
 closed_symbols : (parts : List Part) (e : Element) (at : ℕ)
-  → symbols_in at (parts ++ closes e ∷ []) ≡ symbols_in at parts ++ symbol (at + length (print_parts parts)) (end_tag (name_of e)) ∷ []
+    → symbols_in at (parts ++ closes e ∷ []) ≡ symbols_in at parts ++ symbol (at + length (print_parts parts)) (end_tag (name_of e)) ∷ []
 closed_symbols parts e at = symbols_append parts (closes e ∷ []) at
 
 closed_found : (parts : List Part) (e : Element) (at : ℕ) → found_in at (parts ++ closes e ∷ []) ≡ found_in at parts
@@ -252,13 +298,13 @@ mutual
       let others = are_trees ts depth e each_element in
       let spelled = trees_spelled ts depth inner e each_element (and_right (not (is_leaf e)) others valid) reads in
       let children_are : (children e (element_within depth)).Spells (found_in inner (trees_parts ts)) (symbols_in inner (trees_parts ts)) =
-          (members_of ts inner, joined_members ts inner, (count ts, spelled)) in
+      (members_of ts inner, joined_members ts inner, (count ts, spelled)) in
       let whole = container_spelled e (children e (element_within depth)) at (inner + length (print_parts (trees_parts ts))) (found_in inner (trees_parts ts)) (symbols_in inner (trees_parts ts)) children_are in
       container_within depth e _ _ (not_false (is_leaf e) (and_left (not (is_leaf e)) others valid))
       (rw (closed_symbols (trees_parts ts) e inner, closed_found (trees_parts ts) e inner) whole)
 
   trees_spelled : (ts : Trees) (depth at : ℕ) (parent : Element) (free : Element → Bool) → are_trees ts depth parent free ≡ true → TreesRead ts
-    → (some_members same_element (child_rule parent (element_within depth)) (count ts) free).Spells (members_of ts at) (symbols_in at (trees_parts ts))
+      → (some_members same_element (child_rule parent (element_within depth)) (count ts) free).Spells (members_of ts at) (symbols_in at (trees_parts ts))
   trees_spelled none depth at parent free valid reads = members_end parent (element_within depth) free
   trees_spelled (tree t ts) depth at parent free valid reads =
       let c = root_of t in
@@ -268,6 +314,6 @@ mutual
       let behind = at + length (print_parts (tree_parts t)) in
       rw (symbols_append (tree_parts t) (trees_parts ts) at)
       (members_more parent (element_within depth) (count ts) free c (found_in at (tree_parts t)) (symbols_in at (tree_parts t)) (members_of ts behind) (symbols_in behind (trees_parts ts))
-        (and_left (free c) (is_child parent c) two) (and_right (free c) (is_child parent c) two)
-        (tree_spelled t depth at (and_right (free c && is_child parent c) (is_tree t depth) front) reads.0)
-        (trees_spelled ts depth behind parent (without same_element c free) (and_right (free c && is_child parent c && is_tree t depth) later valid) reads.1))
+      (and_left (free c) (is_child parent c) two) (and_right (free c) (is_child parent c) two)
+      (tree_spelled t depth at (and_right (free c && is_child parent c) (is_tree t depth) front) reads.0)
+      (trees_spelled ts depth behind parent (without same_element c free) (and_right (free c && is_child parent c && is_tree t depth) later valid) reads.1))

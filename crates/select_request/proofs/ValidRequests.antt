@@ -1,6 +1,6 @@
 -- The request of elements that pass all checks is valid.
-use Rattle.std.specs.Prelude.{◌≡◌, ℕ, zero, suc, ◌^◌, ◌<◌, ◌≤◌, Bool, true, false, nat_lt, nat_le, ◌&&◌, ◌==◌, not, List, [], ◌∷◌, Option, None, Some, is_some, unwrap_or, if◌then◌else◌, refl}
-use Rattle.std.proofs.Common.{sym, ◌∙◌, ap, subst, arith}
+use Rattle.std.specs.Prelude.{◌≡◌, ℕ, zero, suc, ◌^◌, ◌<◌, Bool, true, false, nat_lt, nat_le, ◌&&◌, ◌==◌, not, List, [], ◌∷◌, Option, None, Some, is_some, unwrap_or, if◌then◌else◌, refl}
+use Rattle.std.proofs.Common.{◌∙◌, ap, subst, arith}
 use Rattle.std.proofs.lemmas.Bool.Decides.{nat_tests}
 use Rattle.std.specs.Str.Parse.{digits_value}
 use Rattle.select_request.specs.Values.{is_character, is_digits, truth_of, character_of, one_of, one_or_two_of, whole_number_of, between, from_start, last_bytes, range_of, input_is_apart, output_is_apart}
@@ -8,20 +8,17 @@ use Rattle.select_request.specs.Request.{has, text_in, value_at, value_in, comma
 use Rattle.select_request.specs.Checks.{checks, fits_where_there, is_met, fault_at, first_unmet, first_fault}
 use Rattle.select_request.specs.Printable.{is_delimiter, is_one, is_csv_input, is_csv_output, is_input, is_output, is_range, allows_range, is_range_of, is_valid}
 use Rattle.select_request.specs.declared.checks.Check.{Check}
-use Rattle.select_request.specs.declared.checks.Check.TheVariants.{Holds, Fits, HasFormat, HasOneFormat, InputIsApart, OutputIsApart, IsRange, AllowsRange}
-use Rattle.select_request.specs.declared.element.Element.{Element}
-use Rattle.select_request.specs.declared.element.Element.TheVariants.{Request, Expression, ExpressionType, RequestProgress, Enabled, InputSerialization, CompressionType, CsvInput, AllowQuotedRecordDelimiter, Comments, InputFieldDelimiter, FileHeaderInfo, InputQuoteCharacter, InputQuoteEscapeCharacter, InputRecordDelimiter, JsonInput, JsonType, ParquetInput, OutputSerialization, CsvOutput, OutputFieldDelimiter, OutputQuoteCharacter, OutputQuoteEscapeCharacter, QuoteFields, CsvRecordDelimiter, JsonOutput, JsonRecordDelimiter, ScanRange, Start, End}
-use Rattle.select_request.specs.declared.found.Found.{Found}
+use Rattle.select_request.specs.declared.checks.Check.TheVariants.{Fits, InputIsApart, OutputIsApart, AllowsRange}
+use Rattle.request_elements.specs.declared.element.Element.TheVariants.{CsvInput, AllowQuotedRecordDelimiter, Comments, InputFieldDelimiter, InputQuoteCharacter, InputQuoteEscapeCharacter, InputRecordDelimiter, JsonInput, CsvOutput, OutputFieldDelimiter, OutputQuoteCharacter, OutputQuoteEscapeCharacter, CsvRecordDelimiter, JsonRecordDelimiter, ScanRange, Start, End}
+use Rattle.request_elements.specs.declared.found.Found.{Found}
 use Rattle.select_request.specs.declared.request.Delimiter.{Delimiter}
 use Rattle.select_request.specs.declared.request.Delimiter.TheVariants.{One, Two}
-use Rattle.select_request.specs.declared.request.Input.{Input}
 use Rattle.select_request.specs.declared.request.Input.TheVariants.{Csv as CsvObject, JsonLines, Parquet}
-use Rattle.select_request.specs.declared.request.Output.{Output}
 use Rattle.select_request.specs.declared.request.Output.TheVariants.{Csv as CsvReply, Json}
 use Rattle.select_request.specs.declared.request.ScanRange.{ScanRange as Range}
 use Rattle.select_request.specs.declared.request.ScanRange.TheVariants.{Between, From, Last}
 use Rattle.select_request.specs.declared.request.SelectRequest.{SelectRequest}
-use Rattle.select_request.proofs.Printables.{and_left, and_right}
+use Rattle.select_request.proofs.Printables.{and_right}
 use Rattle.select_request.proofs.Readback.{less}
 
 -- ---- the checks that are met
@@ -34,7 +31,7 @@ some_is_none : {A : Type 0} (a : A) → Some a ≡ None → ⊥
 some_is_none a e = cc
 
 met_and_later : (found : List Found) (check : Check) (later : List Check) (b : Bool) → is_met found check ≡ b
-  → (if b then first_unmet found later else Some (fault_at found check)) ≡ None → (is_met found check ≡ true) × (first_unmet found later ≡ None)
+    → (if b then first_unmet found later else Some (fault_at found check)) ≡ None → (is_met found check ≡ true) × (first_unmet found later ≡ None)
 met_and_later found check later true is h = (is, h)
 met_and_later found check later false is h = absurd (some_is_none (fault_at found check) h)
 
@@ -75,10 +72,18 @@ unfolding first_fault checks
 met found none =
     let h = all_met found checks none in
     record {
-      comment = met_at found 9 checks h; input_field = met_at found 10 checks h; input_quote = met_at found 12 checks h;
-      input_escape = met_at found 13 checks h; input_delimiter = met_at found 14 checks h; input_apart = met_at found 15 checks h;
-      output_field = met_at found 21 checks h; output_quote = met_at found 22 checks h; output_escape = met_at found 23 checks h;
-      csv_delimiter = met_at found 25 checks h; output_apart = met_at found 26 checks h; json_delimiter = met_at found 27 checks h;
+      comment = met_at found 9 checks h;
+      input_field = met_at found 10 checks h;
+      input_quote = met_at found 12 checks h;
+      input_escape = met_at found 13 checks h;
+      input_delimiter = met_at found 14 checks h;
+      input_apart = met_at found 15 checks h;
+      output_field = met_at found 21 checks h;
+      output_quote = met_at found 22 checks h;
+      output_escape = met_at found 23 checks h;
+      csv_delimiter = met_at found 25 checks h;
+      output_apart = met_at found 26 checks h;
+      json_delimiter = met_at found 27 checks h;
       allows = met_at found 29 checks h;
     }
 
@@ -105,7 +110,7 @@ character_in None default d h = d
 character_in (Some text) default d h = character_fits text default h
 
 one_fits : (text : List ℕ) (default : Delimiter) → is_some (one_of text) ≡ true
-  → (is_delimiter (unwrap_or (one_of text) default) ≡ true) × (is_one (unwrap_or (one_of text) default) ≡ true)
+    → (is_delimiter (unwrap_or (one_of text) default) ≡ true) × (is_one (unwrap_or (one_of text) default) ≡ true)
 one_fits [] default h = absurd (false_is_not_true h)
 one_fits (b ∷ []) default h =
     let t = guarded (is_character b) (One b) h in
@@ -113,7 +118,7 @@ one_fits (b ∷ []) default h =
 one_fits (b ∷ c ∷ text) default h = absurd (false_is_not_true h)
 
 one_in : (text : Option (List ℕ)) → fits_where_there InputRecordDelimiter text ≡ true
-  → (is_delimiter (value_at one_of (One line_feed) text) ≡ true) × (is_one (value_at one_of (One line_feed) text) ≡ true)
+    → (is_delimiter (value_at one_of (One line_feed) text) ≡ true) × (is_one (value_at one_of (One line_feed) text) ≡ true)
 one_in None h = (refl, refl)
 one_in (Some text) h = one_fits text (One line_feed) h
 
@@ -137,31 +142,31 @@ csv_input_valid found m =
     let csv = csv_input_from found in
     let delimiter = one_in (text_in InputRecordDelimiter found) m.input_delimiter in
     and_from _ (input_is_apart csv)
-      (and_from _ (is_one csv.delimiter)
-        (and_from _ (is_delimiter csv.delimiter)
-          (and_from _ (is_character csv.escape)
-            (and_from _ (is_character csv.quote)
-              (and_from (is_character csv.comment) (is_character csv.field)
-                (character_in (text_in Comments found) number_sign refl m.comment)
-                (character_in (text_in InputFieldDelimiter found) comma refl m.input_field))
-              (character_in (text_in InputQuoteCharacter found) double_quote refl m.input_quote))
-            (character_in (text_in InputQuoteEscapeCharacter found) double_quote refl m.input_escape))
-          delimiter.0)
-        delimiter.1)
-      m.input_apart
+    (and_from _ (is_one csv.delimiter)
+    (and_from _ (is_delimiter csv.delimiter)
+    (and_from _ (is_character csv.escape)
+    (and_from _ (is_character csv.quote)
+    (and_from (is_character csv.comment) (is_character csv.field)
+    (character_in (text_in Comments found) number_sign refl m.comment)
+    (character_in (text_in InputFieldDelimiter found) comma refl m.input_field))
+    (character_in (text_in InputQuoteCharacter found) double_quote refl m.input_quote))
+    (character_in (text_in InputQuoteEscapeCharacter found) double_quote refl m.input_escape))
+    delimiter.0)
+    delimiter.1)
+    m.input_apart
 
 csv_output_valid : (found : List Found) → Met found → is_csv_output (csv_output_from found) ≡ true
 csv_output_valid found m =
     let csv = csv_output_from found in
     and_from _ (output_is_apart csv)
-      (and_from _ (is_delimiter csv.delimiter)
-        (and_from _ (is_character csv.escape)
-          (and_from (is_character csv.field) (is_character csv.quote)
-            (character_in (text_in OutputFieldDelimiter found) comma refl m.output_field)
-            (character_in (text_in OutputQuoteCharacter found) double_quote refl m.output_quote))
-          (character_in (text_in OutputQuoteEscapeCharacter found) double_quote refl m.output_escape))
-        (two_in (text_in CsvRecordDelimiter found) m.csv_delimiter))
-      m.output_apart
+    (and_from _ (is_delimiter csv.delimiter)
+    (and_from _ (is_character csv.escape)
+    (and_from (is_character csv.field) (is_character csv.quote)
+    (character_in (text_in OutputFieldDelimiter found) comma refl m.output_field)
+    (character_in (text_in OutputQuoteCharacter found) double_quote refl m.output_quote))
+    (character_in (text_in OutputQuoteEscapeCharacter found) double_quote refl m.output_escape))
+    (two_in (text_in CsvRecordDelimiter found) m.csv_delimiter))
+    m.output_apart
 
 input_by_formats : (csv json : Bool) (found : List Found) → Met found → is_input (if csv then CsvObject (csv_input_from found) else if json then JsonLines else Parquet) ≡ true
 input_by_formats true json found m = csv_input_valid found m
@@ -169,7 +174,7 @@ input_by_formats false true found m = refl
 input_by_formats false false found m = refl
 
 output_by_format : (csv : Bool) (found : List Found) → Met found
-  → is_output (if csv then CsvReply (csv_output_from found) else Json (value_in one_or_two_of (One line_feed) JsonRecordDelimiter found)) ≡ true
+    → is_output (if csv then CsvReply (csv_output_from found) else Json (value_in one_or_two_of (One line_feed) JsonRecordDelimiter found)) ≡ true
 output_by_format true found m = csv_output_valid found m
 output_by_format false found m = two_in (text_in JsonRecordDelimiter found) m.json_delimiter
 
@@ -226,13 +231,13 @@ range_valid None (Some e) g h = last_valid (whole_number_of e) g (number_small e
 range_valid (Some s) (Some e) g h = between_valid (whole_number_of s) (whole_number_of e) g (number_small e) h
 
 allows_by : (csv json : Bool) (found : List Found) → not (value_in truth_of false AllowQuotedRecordDelimiter found) ≡ true
-  → allows_range (if csv then CsvObject (csv_input_from found) else if json then JsonLines else Parquet) ≡ true
+    → allows_range (if csv then CsvObject (csv_input_from found) else if json then JsonLines else Parquet) ≡ true
 allows_by true json found h = h
 allows_by false true found h = refl
 allows_by false false found h = refl
 
 range_by : (found : List Found) (b : Bool) (o : Option Range) → range_of (text_in Start found) (text_in End found) ≡ o
-  → (if b then not (value_in truth_of false AllowQuotedRecordDelimiter found) else true) ≡ true → is_range_of (input_from found) (if b then o else None) ≡ true
+    → (if b then not (value_in truth_of false AllowQuotedRecordDelimiter found) else true) ≡ true → is_range_of (input_from found) (if b then o else None) ≡ true
 range_by found false o e a = refl
 range_by found true None e a = refl
 range_by found true (Some g) e a =
@@ -244,9 +249,9 @@ unfolding request_from is_valid
 passing_is_valid found none =
     let m = met found none in
     and_from _ (is_range_of (input_from found) (range_from found))
-      (and_from (is_input (input_from found)) (is_output (output_from found))
-        (input_by_formats (has CsvInput found) (has JsonInput found) found m) (output_by_format (has CsvOutput found) found m))
-      (range_by found (has ScanRange found) (range_of (text_in Start found) (text_in End found)) refl m.allows)
+    (and_from (is_input (input_from found)) (is_output (output_from found))
+    (input_by_formats (has CsvInput found) (has JsonInput found) found m) (output_by_format (has CsvOutput found) found m))
+    (range_by found (has ScanRange found) (range_of (text_in Start found) (text_in End found)) refl m.allows)
 
 pub spelled_is_valid : (request : SelectRequest) (found : List Found) → request ≡ request_from found → first_fault found ≡ None → is_valid request ≡ true
 spelled_is_valid request found values passes = rw values (passing_is_valid found passes)

@@ -1,16 +1,16 @@
 -- The checks on the elements found in a body, in the order in which they are made. The first that isn't
 -- met is the body's fault (Amazon S3 API Reference, SelectObjectContent, and its errors).
-use Rattle.std.specs.Prelude.{ℕ, ◌+◌, Bool, true, false, nat_lt, ◌&&◌, not, List, [], ◌∷◌, Option, None, Some, is_some, codes, if◌then◌else◌}
-use Rattle.select_request.specs.Values.{is_word, truth_of, header_of, quoting_of, character_of, one_of, one_or_two_of, range_of, input_is_apart, output_is_apart}
+use Rattle.std.specs.Prelude.{ℕ, ◌+◌, Bool, true, false, nat_lt, not, List, [], ◌∷◌, Option, None, Some, is_some, codes, if◌then◌else◌}
+use Rattle.select_request.specs.Values.{is_word, truth_of, header_of, quoting_of, character_of, one_of, one_or_two_of, input_is_apart, output_is_apart}
 use Rattle.select_request.specs.Request.{has, text_in, place_in, value_in, csv_input_from, csv_output_from, range_from}
 use Rattle.select_request.specs.declared.checks.Check.{Check}
 use Rattle.select_request.specs.declared.checks.Check.TheVariants.{Holds, Fits, HasFormat, HasOneFormat, InputIsApart, OutputIsApart, IsRange, AllowsRange}
-use Rattle.select_request.specs.declared.element.Element.{Element}
-use Rattle.select_request.specs.declared.element.Element.TheVariants.{Request, Expression, ExpressionType, RequestProgress, Enabled, InputSerialization, CompressionType, CsvInput, AllowQuotedRecordDelimiter, Comments, InputFieldDelimiter, FileHeaderInfo, InputQuoteCharacter, InputQuoteEscapeCharacter, InputRecordDelimiter, JsonInput, JsonType, ParquetInput, OutputSerialization, CsvOutput, OutputFieldDelimiter, OutputQuoteCharacter, OutputQuoteEscapeCharacter, QuoteFields, CsvRecordDelimiter, JsonOutput, JsonRecordDelimiter, ScanRange, Start, End}
+use Rattle.request_elements.specs.declared.element.Element.{Element}
+use Rattle.request_elements.specs.declared.element.Element.TheVariants.{Request, Expression, ExpressionType, Enabled, InputSerialization, CompressionType, CsvInput, AllowQuotedRecordDelimiter, Comments, InputFieldDelimiter, FileHeaderInfo, InputQuoteCharacter, InputQuoteEscapeCharacter, InputRecordDelimiter, JsonInput, JsonType, ParquetInput, OutputSerialization, CsvOutput, OutputFieldDelimiter, OutputQuoteCharacter, OutputQuoteEscapeCharacter, QuoteFields, CsvRecordDelimiter, JsonOutput, JsonRecordDelimiter, ScanRange}
 use Rattle.select_request.specs.declared.fault.RequestFault.{RequestFault}
 use Rattle.select_request.specs.declared.fault.RequestFaultCode.{RequestFaultCode}
 use Rattle.select_request.specs.declared.fault.RequestFaultCode.TheVariants.{MissingRequiredParameter, InvalidExpressionType, InvalidRequestParameter, InvalidCompressionFormat, InvalidScanRange, UnsupportedScanRangeInput}
-use Rattle.select_request.specs.declared.found.Found.{Found}
+use Rattle.request_elements.specs.declared.found.Found.{Found}
 
 -- the checks, in their order
 unfoldable pub checks : List Check

@@ -1,14 +1,6 @@
-pub mod Body
 pub mod Checks
-pub mod Elements
-pub mod Grammar
-pub mod Pieces
 pub mod Printable
 pub mod Printed
-pub mod Readers
 pub mod Reading
 pub mod Request
-pub mod Sights
-pub mod Taken
-pub mod TextValue
 pub mod Values

@@ -1,6 +1,6 @@
 -- The requests that are printed: those whose values pass the checks that a body's do, and whose
 -- expression a body can hold.
-use Rattle.std.specs.Prelude.{ℕ, ◌^◌, Bool, true, false, nat_lt, nat_le, ◌&&◌, ◌==◌, not, List, [], ◌∷◌, length, Option, None, Some}
+use Rattle.std.specs.Prelude.{ℕ, ◌^◌, Bool, true, false, nat_lt, nat_le, ◌&&◌, ◌==◌, not, List, length, Option, None, Some}
 use Rattle.std.specs.List.{list_any}
 use Rattle.select_request.specs.Values.{is_character, input_is_apart, output_is_apart}
 use Rattle.select_request.specs.declared.request.CsvInput.{CsvInput}

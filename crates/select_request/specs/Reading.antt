@@ -1,13 +1,13 @@
 -- What reading a body gives: the request that it spells, or its first fault.
-use Rattle.std.specs.Prelude.{◌≡◌, ℕ, ◌<◌, ◌≤◌, List, length, Option, Some, None, Result, Ok, Err, ◌⊎◌}
-use Rattle.select_request.specs.Body.{HasElements, IsMalformed}
+use Rattle.std.specs.Prelude.{◌≡◌, ℕ, ◌<◌, ◌≤◌, List, length, Some, None, Result, Ok, Err, ◌⊎◌}
+use Rattle.request_elements.specs.Body.{HasElements, IsMalformed}
 use Rattle.select_request.specs.Checks.{first_fault}
 use Rattle.select_request.specs.Request.{request_from}
 use Rattle.select_request.specs.declared.fault.ReadError.{ReadError}
 use Rattle.select_request.specs.declared.fault.ReadError.TheVariants.{Refused, OutOfMemory}
 use Rattle.select_request.specs.declared.fault.RequestFault.{RequestFault}
 use Rattle.select_request.specs.declared.fault.RequestFaultCode.TheVariants.{MalformedXML}
-use Rattle.select_request.specs.declared.found.Found.{Found}
+use Rattle.request_elements.specs.declared.found.Found.{Found}
 use Rattle.select_request.specs.declared.request.SelectRequest.{SelectRequest}
 
 -- the longest body that is read

@@ -7,10 +7,10 @@ ghost use Rattle.select_request.specs.declared.fault.ReadError.TheVariants.{Refu
 ghost use Rattle.select_request.specs.Printable.{is_valid};
 ghost use Rattle.select_request.specs.Reading.{longest_body, SpellsRequest, HasFault, Reads, Gives, Refuses};
 
-use crate::elements::{ElementsError, elements};
 use crate::fault::{ReadError, RequestFault, RequestFaultCode};
 use crate::request::SelectRequest;
 use crate::settings::request_of;
+use request_elements::{ElementsError, read_elements};
 use std::alloc::Global;
 
 /// The longest body that is read, in bytes.
@@ -38,7 +38,7 @@ pub fn read(alloc: Global, body: &[u8]) -> Result<SelectRequest, ReadError>
     if body.len() > LONGEST_BODY {
         return Err(ReadError::Refused(malformed(LONGEST_BODY)));
     }
-    match elements(alloc, body) {
+    match read_elements(alloc, body) {
         Ok(found) => match request_of(alloc, found) {
             Ok(request) => Ok(request),
             Err(fault) => Err(ReadError::Refused(fault)),

@@ -2,11 +2,11 @@
 ghost use Rattle.std.specs.Prelude.{◌≡◌, ◌≤◌};
 ghost use Rattle.select_request.specs.Checks.{checks, first_fault, first_unmet, fits, counted, formats_in, is_met, code_of, element_at, fault_at};
 
-use crate::element::Element;
 use crate::fault::{RequestFault, RequestFaultCode};
-use crate::found::{Found, has, place_in, text_in};
+use crate::found::{has, place_in, text_in};
 use crate::settings::{csv_input_from, csv_output_from, range_from, truth_in};
 use crate::values::{character, header, is_word, one, one_or_two, quoting, truth};
+use request_elements::{Element, Found};
 
 /// A check on the elements found in a body.
 #[derive(Clone, Copy, Debug, PartialEq, Eq)]
@@ -140,10 +140,8 @@ impl Check {
             Check::Holds(_, _) | Check::HasFormat(_) => RequestFaultCode::MissingRequiredParameter,
             Check::Fits(Element::ExpressionType) => RequestFaultCode::InvalidExpressionType,
             Check::Fits(Element::CompressionType) => RequestFaultCode::InvalidCompressionFormat,
-            Check::Fits(_)
-            | Check::HasOneFormat(_)
-            | Check::InputIsApart
-            | Check::OutputIsApart => RequestFaultCode::InvalidRequestParameter,
+            Check::Fits(_) | Check::HasOneFormat(_) | Check::InputIsApart | Check::OutputIsApart =>
+                RequestFaultCode::InvalidRequestParameter,
             Check::IsRange => RequestFaultCode::InvalidScanRange,
             Check::AllowsRange => RequestFaultCode::UnsupportedScanRangeInput,
         }

@@ -1,18 +1,8 @@
-//! What reading the body's grammar finds.
+//! Lookups in the elements found in a body.
 ghost use Rattle.std.specs.Prelude.{◌≡◌, option_map};
 ghost use Rattle.select_request.specs.Request.{find, has, text_in, place_in};
 
-use crate::element::Element;
-use crate::request::TextBuf;
-
-/// An element of a body: its place, which is that of the `<` of its start tag, and its text, with references resolved. An
-/// element that holds others has the empty text.
-#[derive(Drop)]
-pub(crate) struct Found {
-    pub(crate) element: Element,
-    pub(crate) at: usize,
-    pub(crate) text: TextBuf,
-}
+use request_elements::{Element, Found, TextBuf};
 
 /// The first of the elements found that is this one.
 pub(crate) fn find(found: &[Found], element: Element) -> Option<&Found>

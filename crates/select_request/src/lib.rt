@@ -5,16 +5,12 @@
 
 mod body;
 mod checks;
-mod element;
-mod elements;
 mod fault;
 mod found;
 mod law;
-mod pieces;
 mod printer;
 mod request;
 mod settings;
-mod text;
 mod valid;
 mod values;
 
@@ -23,10 +19,9 @@ pub use fault::{ReadError, RequestFault, RequestFaultCode};
 pub use law::print_and_read;
 pub use printer::print;
 pub use request::{
-    CsvInput, CsvOutput, Delimiter, Header, Input, Output, ScanRange, SelectRequest, TextBuf,
+    CsvInput, CsvOutput, Delimiter, Header, Input, Output, ScanRange, SelectRequest,
 };
+pub use request_elements::TextBuf;
 
 #[cfg(test)]
 mod body_tests;
-#[cfg(test)]
-mod tests;

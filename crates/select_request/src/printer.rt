@@ -4,11 +4,11 @@ ghost use Rattle.select_request.specs.Printed.{escaped_byte, escaped, truth_text
 ghost use Rattle.select_request.specs.Reading.{SpellsRequest};
 ghost use Rattle.select_request.specs.Printable.{is_csv_input, is_csv_output, is_input, is_output, is_delimiter, is_printable};
 
-use crate::element::Element;
 use crate::request::{
-    CsvInput, CsvOutput, Delimiter, Header, Input, Output, ScanRange, SelectRequest, TextBuf,
+    CsvInput, CsvOutput, Delimiter, Header, Input, Output, ScanRange, SelectRequest,
 };
 use memchr::memchr3;
+use request_elements::{Element, TextBuf};
 use std::alloc::{AllocError, Global};
 use std::marker::Model;
 
@@ -292,10 +292,8 @@ impl Printer {
 
 /// What stands before the first `<`, `>` or `&` of a text, that byte, and what stands behind it.
 fn cut_at_special(text: &str) -> Option<(&str, u8, &str)>
-    ensures {
-        MatchOption result (escaped text.now ≡ text.now)
-            (λ cut. (cut.1 < 128) × (length cut.2.now < length text.now) × (escaped text.now ≡ cut.0.now ++ (escaped_byte cut.1 ++ escaped cut.2.now)))
-    }
+    ensures { MatchOption result (escaped text.now ≡ text.now)
+        (λ cut. (cut.1 < 128) × (length cut.2.now < length text.now) × (escaped text.now ≡ cut.0.now ++ (escaped_byte cut.1 ++ escaped cut.2.now))) }
 {
     let at = memchr3(b'<', b'>', b'&', text.as_bytes())?;
     let byte = text.as_bytes()[at];

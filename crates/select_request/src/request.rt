@@ -1,10 +1,8 @@
 //! A request, as its body spells it (Amazon S3 API Reference, `SelectObjectContent`).
-ghost use Rattle.std.specs.Prelude.{◌≡◌, IfOk, []};
-ghost use Rattle.std.specs.String.{string_bytes};
+ghost use Rattle.std.specs.Prelude.{◌≡◌};
 ghost use Rattle.select_request.specs.Values.{holds, input_is_apart, output_is_apart};
 
-use std::alloc::{AllocError, Global};
-use std::marker::Model;
+use request_elements::TextBuf;
 
 /// What a client asks of one object.
 #[derive(Drop)]
@@ -128,52 +126,5 @@ impl CsvOutput {
             && !self.delimiter.holds(self.quote)
             && self.escape != self.field
             && !self.delimiter.holds(self.escape)
-    }
-}
-
-/// A text that is owned, which contracts see as its bytes.
-#[derive(Drop)]
-pub struct TextBuf {
-    text: String,
-}
-
-impl Model for TextBuf {
-    ghost use Rattle.std.specs.Prelude.{ℕ, List};
-    ghost use Rattle.std.specs.String.{string_bytes};
-
-    ghost Value = { List ℕ };
-
-    ghost view = { λ t. string_bytes t.text };
-}
-
-impl TextBuf {
-    /// A copy of the text.
-    pub fn of(alloc: Global, text: &str) -> Result<TextBuf, AllocError>
-        ensures { IfOk result (λ copy. copy ≡ text.now) }
-    {
-        Ok(TextBuf {
-            text: String::from_str(alloc, text)?,
-        })
-    }
-
-    /// The text of a `String`, which isn't copied.
-    pub(crate) fn from_string(text: String) -> TextBuf
-        ensures { result ≡ string_bytes text }
-    {
-        TextBuf { text }
-    }
-
-    pub(crate) fn empty(alloc: Global) -> TextBuf
-        ensures { result ≡ [] }
-    {
-        TextBuf {
-            text: String::new(alloc),
-        }
-    }
-
-    pub fn text(&self) -> &str
-        ensures { result.now ≡ self.now }
-    {
-        self.text.as_str()
     }
 }

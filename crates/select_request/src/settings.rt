@@ -5,11 +5,13 @@ ghost use Rattle.select_request.specs.Request.{value_in, csv_input_from, csv_out
 ghost use Rattle.select_request.specs.Checks.{first_fault};
 
 use crate::checks::first_fault;
-use crate::element::Element;
 use crate::fault::RequestFault;
-use crate::found::{Found, has, take_text, text_in};
-use crate::request::{CsvInput, CsvOutput, Delimiter, Header, Input, Output, ScanRange, SelectRequest, TextBuf};
+use crate::found::{has, take_text, text_in};
+use crate::request::{
+    CsvInput, CsvOutput, Delimiter, Header, Input, Output, ScanRange, SelectRequest,
+};
 use crate::values::{character, header, one, one_or_two, quoting, range, truth};
+use request_elements::{Element, Found, TextBuf};
 use std::alloc::Global;
 
 /// A truth value, which is false by default.
@@ -94,7 +96,11 @@ pub(crate) fn input_from(found: &[Found]) -> Input
     if has(found, Element::CsvInput) {
         return Input::Csv(csv_input_from(found));
     }
-    if has(found, Element::JsonInput) { Input::JsonLines } else { Input::Parquet }
+    if has(found, Element::JsonInput) {
+        Input::JsonLines
+    } else {
+        Input::Parquet
+    }
 }
 
 /// How the reply's CSV is written.

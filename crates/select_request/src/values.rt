@@ -86,7 +86,9 @@ pub(crate) fn one_or_two(text: &str) -> Option<Delimiter>
 {
     match *text.as_bytes() {
         [byte] if is_character(byte) => Some(Delimiter::One(byte)),
-        [first, second] if is_character(first) && is_character(second) => Some(Delimiter::Two(first, second)),
+        [first, second] if is_character(first) && is_character(second) => Some(Delimiter::Two(
+            first, second,
+        )),
         _ => None,
     }
 }

@@ -1,4 +1,4 @@
-use Rattle.std.specs.Prelude.{◌≡◌, ◌≤◌, length}
+use Rattle.std.specs.Prelude.{◌≤◌, length}
 use Rattle.std.proofs.Common.{◌∙◌, ap, arith}
 use Rattle.select_request.specs.Reading.{longest_body}
 use Rattle.select_request.proofs.ValidRequests.{spelled_is_valid}
@@ -9,9 +9,9 @@ pub returns-in-Err-Malformed-clause-fault : goal.returns-in-Err-Malformed-clause
 returns-in-Err-Malformed-clause-fault c =
     let short : length c.args.body.now ≤ longest_body = omega arith in
     λ fault has.
-      c.malformed-in-Err-Malformed.ensures
-      ∙ ap refused_at c.in-Err-Malformed.at-is
-      ∙ malformed_one_fault c.args.body.now c.in-Err-Malformed.field-0 c.in-Err-Malformed.at c.in-Err-Malformed.field-0-is short c.in-Err-Malformed.ensures.spelled c.in-Err-Malformed.ensures.refused fault has
+    c.malformed-in-Err-Malformed.ensures
+    ∙ ap refused_at c.in-Err-Malformed.at-is
+    ∙ malformed_one_fault c.args.body.now c.in-Err-Malformed.field-0 c.in-Err-Malformed.at c.in-Err-Malformed.field-0-is short c.in-Err-Malformed.ensures.spelled c.in-Err-Malformed.ensures.refused fault has
 
 pub returns-in-Ok-request_of-clause-valid : goal.returns-in-Ok-request_of-clause-valid
 returns-in-Ok-request_of-clause-valid c =

@@ -1,7 +1,7 @@
 use Rattle.std.specs.Prelude.{◌≡◌, true, false}
 use Rattle.std.proofs.Common.{sym, ◌∙◌}
 use Rattle.select_request.proofs.Finding.{same_is, find_here, find_later}
-use Rattle.select_request.specs.Elements.{same_element}
+use Rattle.request_elements.specs.Elements.{same_element}
 use Rattle.select_request.proofs.found.find.Goals as goal
 
 pub returns-then-eq : goal.returns-then-eq

@@ -1,5 +1,5 @@
-use Rattle.std.specs.Prelude.{◌≡◌, ℕ, ◌+◌, ◌-◌, ◌<◌, true, length, slice_index}
-use Rattle.std.proofs.Common.{arith, sym, ◌∙◌, add-one, rules}
+use Rattle.std.specs.Prelude.{◌≡◌, ◌-◌, ◌<◌, length}
+use Rattle.std.proofs.Common.{arith}
 use Rattle.std.proofs.lemmas.Str.{IsCharBoundary-after_ascii}
 use Rattle.select_request.proofs.Escaping.{cut_none, special_at, cut_at}
 use Rattle.select_request.proofs.printer.cut_at_special.Goals as goal
@@ -18,5 +18,7 @@ returns c =
     let cut = cut_at c.args.text.now c.as_bytes.result.now c.in_ok-at.at c.as_bytes.ensures.value c.in_ok-at.ensures in
     let shorter : length c.range_from.result.now < length c.args.text.now = omega (arith, c.range_from.ensures.len) in
     rw (c.as_bytes-2.ensures.value) (
-      special.1, shorter,
-      let front : c.in_ok-at.at - 0 ≡ c.in_ok-at.at = omega arith in rw (c.range_from.ensures.value, c.range.ensures.value, front) cut)
+      special.1,
+      shorter,
+      let front : c.in_ok-at.at - 0 ≡ c.in_ok-at.at = omega arith in rw (c.range_from.ensures.value, c.range.ensures.value, front) cut,
+    )

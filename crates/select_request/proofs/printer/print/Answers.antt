@@ -1,4 +1,4 @@
-use Rattle.std.specs.Prelude.{◌≡◌, ◌++◌, IsUtf8}
+use Rattle.std.specs.Prelude.{◌++◌, IsUtf8}
 use Rattle.std.proofs.Common.{◌∙◌, ap, subst}
 use Rattle.select_request.specs.Printed.{printed}
 use Rattle.select_request.proofs.Printing.{spells_printed}

@@ -1,5 +1,5 @@
-use Rattle.std.specs.Prelude.{◌≡◌, ◌≢◌, ℕ, Bool, true, false, Ok, Err, refl}
-use Rattle.std.proofs.Common.{sym, ◌∙◌, get_or}
+use Rattle.std.specs.Prelude.{◌≡◌, true, false, refl}
+use Rattle.std.proofs.Common.{sym, ◌∙◌}
 use Rattle.select_request.proofs.WholeNumber.{plus_is_none, read_ok_plain, read_err_plain}
 use Rattle.select_request.proofs.values.whole_number.Goals as goal
 

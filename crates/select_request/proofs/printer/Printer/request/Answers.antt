@@ -9,11 +9,11 @@ returns c =
     let expression = rw c.text.ensures at c.in_ok-leaf.ensures in
     on_ok c.close.result
     (λ closed.
-      adds c.args.self.now _ _ c.in_ok-open.ensures (
-      adds c.open.new.self _ _ expression (
-      adds c.leaf.new.self _ _ c.in_ok-leaf-2.ensures (
-      adds_parts c.leaf-2.new.self (settings_parts c.args.request.now) _ c.in_ok-settings.ensures (
-      adds_parts c.settings.new.self (range_parts c.args.request.now.range) _ c.in_ok-optional_range.ensures (
-      adds_last c.optional_range.new.self _ closed)))))
-      ∙ ap (λ t. c.args.self.now ++ t) (printed_is c.args.request.now))
+    adds c.args.self.now _ _ c.in_ok-open.ensures (
+    adds c.open.new.self _ _ expression (
+    adds c.leaf.new.self _ _ c.in_ok-leaf-2.ensures (
+    adds_parts c.leaf-2.new.self (settings_parts c.args.request.now) _ c.in_ok-settings.ensures (
+    adds_parts c.settings.new.self (range_parts c.args.request.now.range) _ c.in_ok-optional_range.ensures (
+    adds_last c.optional_range.new.self _ closed)))))
+    ∙ ap (λ t. c.args.self.now ++ t) (printed_is c.args.request.now))
     c.close.ensures
