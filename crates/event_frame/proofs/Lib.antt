@@ -10,8 +10,10 @@ pub mod HeaderList
 pub mod HeaderRepeats
 pub mod HeaderSort
 pub mod IntakeLaws
+pub mod OneCounts
 pub mod ReaderLaws
 pub mod Readings
 pub mod RegisterLaws
+pub mod RunLaws
 pub mod Unique
 pub mod Written

@@ -1,8 +1,13 @@
 -- The frames that are written for events are frames of those events.
-use Rattle.std.proofs.Common.{◌≡◌, ℕ, ◌+◌, ◌<◌, ◌≤◌, List, [], ◌∷◌, length, Some, refl, arith, length-append}
+use Rattle.std.proofs.Common.{◌≡◌, ℕ, ◌+◌, ◌^◌, ◌<◌, ◌≤◌, true, false, slice_index, List, [], ◌∷◌, length, Some, refl, arith, length-append}
 use Rattle.std.specs.Prelude.{decimal}
+use Rattle.std.specs.Char.{is_ascii_digit}
+use Rattle.std.specs.Int.{IsInRange}
+use Rattle.std.proofs.lemmas.Bool.{le-leb}
+use Rattle.std.proofs.lemmas.Fmt.{decimal_is_IsNumeral_wide}
+use Rattle.std.proofs.lemmas.Str.Parse.{digit_at}
 use Rattle.itoa.proofs.Decimal.{length_wide}
-use Rattle.event_frame.specs.CountsText.{CountsFit, progress_of, stats_of, print_counts, print_element, opening}
+use Rattle.event_frame.specs.CountsText.{CountsFit, IsNumber, ReadsCounts, counts_text, progress_of, stats_of, print_counts, print_element, opening}
 use Rattle.event_frame.specs.declared.counts.Counts.{Counts}
 use Rattle.event_frame.specs.Message.{print_header, print_headers}
 use Rattle.event_frame.specs.Event.{Event, records, cont, progress, stats, end, error, header, headers_of, payload_of, frame_of}
@@ -89,3 +94,34 @@ counts_fit c fit =
     let processed : length (decimal c.processed) ≤ 39 = length_wide c.processed fit.processed in
     let returned : length (decimal c.returned) ≤ 39 = length_wide c.returned fit.returned in
     (simp length-append (omega arith), simp length-append (omega arith))
+
+in_digits : (b : ℕ) → IsInRange 48 57 b → is_ascii_digit b ≡ true
+in_digits b within = rw (le-leb 48 b within.0, le-leb b 57 within.1)
+
+number_written : (n : ℕ) → n < 2 ^ 128 → IsNumber (decimal n) n
+number_written n fits =
+    let d = decimal_is_IsNumeral_wide n (omega (arith, fits)) in
+    record {
+      some = d.0.0;
+      are_digits = λ k h. in_digits (slice_index (decimal n) k) (digit_at (decimal n) k d.0.1 h);
+      value = d.1;
+      fits = fits;
+    }
+
+-- the text that is written for counts is read as those counts
+pub counts_written : (name : List ℕ) (c : Counts) → CountsFit c → ReadsCounts name (counts_text name c) c
+counts_written name c fit = record {
+  text = record {
+    declared = true;
+    namespaced = false;
+    scanned = decimal c.scanned;
+    processed = decimal c.processed;
+    returned = decimal c.returned;
+  };
+  printed = refl;
+  spelled = record {
+    scanned = number_written c.scanned fit.scanned;
+    processed = number_written c.processed fit.processed;
+    returned = number_written c.returned fit.returned;
+  };
+}

@@ -9,6 +9,7 @@ pub mod Reader
 pub mod ReaderView
 pub mod Reading
 pub mod Register
+pub mod Runs
 pub mod Shown
 pub mod Steps
 pub mod Stream

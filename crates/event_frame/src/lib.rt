@@ -22,5 +22,7 @@ pub use crc::crc32;
 pub use event::EventView;
 pub use fault::{FrameFault, FrameFaultCode};
 pub use reader::FrameReader;
-pub use stream::{stream_has_one_reading, written_frames_are_read};
+pub use stream::{
+    counts_have_one_reading, runs_read_the_stream, stream_has_one_reading, written_frames_are_read,
+};
 pub use writer::FrameWriter;

@@ -1,11 +1,14 @@
-// The laws of streams.
+// The laws of streams, and of the counts in them.
 
-ghost use Rattle.std.specs.Prelude.{ℕ, List, [], Option};
-ghost use Rattle.event_frame.specs.CountsText.{CountsFit, progress_of, stats_of};
+ghost use Rattle.std.specs.Prelude.{◌≡◌, ℕ, false, List, [], ◌∷◌, Option, None, Err};
+ghost use Rattle.event_frame.specs.CountsText.{CountsFit, ReadsCounts, counts_text, progress_of, stats_of};
 ghost use Rattle.event_frame.specs.Event.{Event, frame_of};
 ghost use Rattle.event_frame.specs.Reading.{IsFrame};
+ghost use Rattle.event_frame.specs.Reader.{ReaderState, Feeds, fresh_reader};
+ghost use Rattle.event_frame.specs.Runs.{Call, IsRun, taken_bytes, lent_events, ReadsSoFar, ShowsThere};
 ghost use Rattle.event_frame.specs.Stream.{Reads, IsSameReading, PartsFit, AllPartsFit, frames_of};
 ghost use Rattle.event_frame.specs.declared.counts.Counts.{Counts};
+ghost use Rattle.event_frame.specs.declared.fault.FrameFault.{FrameFault};
 ghost use Rattle.event_frame.specs.declared.fault.FrameFaultCode.{FrameFaultCode};
 
 /// The bytes of a stream spell one list of events and end in one way, whatever the pieces were in
@@ -19,11 +22,33 @@ pub fn stream_has_one_reading()
 
 /// What [`FrameWriter`](crate::FrameWriter) writes is read as it was meant: the frame of an event is a
 /// frame of that event, and the frames of events, one after the other, spell those events and no
-/// others, with nothing left over and no fault. The Progress and Stats events of counts fit.
+/// others, with nothing left over and no fault. The Progress and Stats events of counts fit, and their
+/// texts are read as those counts.
 pub fn written_frames_are_read()
     ensures frame { (event : Event) → PartsFit event → IsFrame (frame_of event) event }
     ensures stream { (events : List Event) → AllPartsFit events → Reads (frames_of events) events [] None }
     ensures counts { (counts : Counts) → CountsFit counts → PartsFit (progress_of counts) × PartsFit (stats_of counts) }
+    ensures counted { (name : List ℕ) (counts : Counts) → CountsFit counts → ReadsCounts name (counts_text name counts) counts }
     ensures only { (events others : List Event) (rest : List ℕ) (fault : Option (FrameFaultCode × ℕ))
         → AllPartsFit events → Reads (frames_of events) others rest fault → IsSameReading events others [] rest None fault }
+{}
+
+/// Over any calls of [`FrameReader::feed`](crate::FrameReader::feed) and
+/// [`take`](crate::FrameReader::take) from the first byte on: the bytes taken are frames of the events
+/// lent, and then what is kept; a fault is that of those bytes, at its place; and the events depend on
+/// the bytes alone, whatever the pieces were.
+pub fn runs_read_the_stream()
+    ensures spelled { (calls : List Call) (new : ReaderState) → IsRun fresh_reader calls new → new.fault ≡ None → ReadsSoFar calls new }
+    ensures faulty { (calls : List Call) (piece : List ℕ) (fault : FrameFault) (old new : ReaderState)
+        → IsRun fresh_reader calls old → old.fault ≡ None → Feeds old piece (Err fault) new → ShowsThere calls piece fault }
+    ensures alone { (calls others : List Call) (new other : ReaderState) → IsRun fresh_reader calls new → IsRun fresh_reader others other
+        → new.fault ≡ None → other.fault ≡ None → new.held ≡ false → other.held ≡ false
+        → taken_bytes calls ≡ taken_bytes others → lent_events calls ≡ lent_events others }
+{}
+
+/// The payload of a Progress or Stats event spells one set of counts, if it spells any. No event's name
+/// begins with `?`, which begins the declaration.
+pub fn counts_have_one_reading()
+    ensures { (first : ℕ) (name payload : List ℕ) (counts other : Counts) → (first ≡ 63 → ⊥)
+        → ReadsCounts (first ∷ name) payload counts → ReadsCounts (first ∷ name) payload other → counts ≡ other }
 {}

@@ -26,7 +26,8 @@ fn malformed(at: usize) -> RequestFault
     }
 }
 
-/// Reads a request body, the XML of Amazon S3's `SelectObjectContentRequest`.
+/// Reads a request body, the XML of Amazon S3's `SelectObjectContentRequest`. A body that is refused has its first fault,
+/// with its place in bytes from the body's front. One over [`LONGEST_BODY`] bytes is `MalformedXML` at that place.
 pub fn read(alloc: Global, body: &[u8]) -> Result<SelectRequest, ReadError>
     ensures reads { Reads body.now result }
     ensures valid { IfOk result (λ request. IsTrue (is_valid request)) }

@@ -9,7 +9,7 @@ use crate::printer::print;
 use crate::request::SelectRequest;
 use std::alloc::Global;
 
-/// Prints a request and reads what was printed, which gives the request again.
+/// Prints a request and reads what was printed, which gives the request again, or wants memory.
 pub fn print_and_read(alloc: Global, request: &SelectRequest) -> Result<SelectRequest, ReadError>
     requires { IsTrue (is_printable request.now) }
     ensures { Gives request.now result }

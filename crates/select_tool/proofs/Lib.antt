@@ -1,6 +1,5 @@
 pub mod LineLaws
 pub mod ListingLaws
-pub mod OneCounts
 pub mod OneListing
 pub mod EndingLaws
 pub mod Contents

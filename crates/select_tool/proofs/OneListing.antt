@@ -15,41 +15,45 @@ use Rattle.select_tool.specs.Lines.{IsLine, IsCountsLine, numbers}
 use Rattle.select_tool.specs.Endings.{longest_input, Ending, replied, bad, long, are_replies, is_error, IsReplied, GoesBad, EndsEarly, IsLong, EndsWith}
 use Rattle.select_tool.specs.Listings.{Adds, Lists, IsListed, IsOneAnswer}
 use Rattle.select_tool.proofs.ListingLaws.{OneReading}
-use Rattle.select_tool.proofs.OneCounts.{one_counts}
+
+-- a payload spells one set of counts
+abbrev pub OneCounts : Type 0
+OneCounts = (first : ℕ) (name payload : List ℕ) (counts other : Counts) → (first ≡ 63 → ⊥)
+    → ReadsCounts (first ∷ name) payload counts → ReadsCounts (first ∷ name) payload other → counts ≡ other
 
 -- ---- one line
 
-same_read : (n : ℕ) (name payload : List ℕ) (a b : Option Counts) → (n ≡ 63 → ⊥)
+same_read : OneCounts → (n : ℕ) (name payload : List ℕ) (a b : Option Counts) → (n ≡ 63 → ⊥)
     → MatchOption a (HasNoCounts (n ∷ name) payload) (ReadsCounts (n ∷ name) payload)
     → MatchOption b (HasNoCounts (n ∷ name) payload) (ReadsCounts (n ∷ name) payload) → a ≡ b
-same_read n name payload None None other first second = refl
-same_read n name payload None (Some d) other first second = absurd (first d second)
-same_read n name payload (Some c) None other first second = absurd (second c first)
-same_read n name payload (Some c) (Some d) other first second = ap (λ x. Some x) (one_counts n name payload c d other first second)
+same_read law n name payload None None other first second = refl
+same_read law n name payload None (Some d) other first second = absurd (first d second)
+same_read law n name payload (Some c) None other first second = absurd (second c first)
+same_read law n name payload (Some c) (Some d) other first second = ap (λ x. Some x) (law n name payload c d other first second)
 
-same_counts_line : (n : ℕ) (name payload a b : List ℕ) → (n ≡ 63 → ⊥) → IsCountsLine (n ∷ name) payload a → IsCountsLine (n ∷ name) payload b → a ≡ b
-same_counts_line n name payload a b other first second =
+same_counts_line : OneCounts → (n : ℕ) (name payload a b : List ℕ) → (n ≡ 63 → ⊥) → IsCountsLine (n ∷ name) payload a → IsCountsLine (n ∷ name) payload b → a ≡ b
+same_counts_line law n name payload a b other first second =
     first.spelled
-    ∙ ap (λ (c : Option Counts). line ((n ∷ name) ++ codes " " ++ numbers c)) (same_read n name payload first.counts second.counts other first.read second.read)
+    ∙ ap (λ (c : Option Counts). line ((n ∷ name) ++ codes " " ++ numbers c)) (same_read law n name payload first.counts second.counts other first.read second.read)
     ∙ sym second.spelled
 
-same_line : (event : Event) (a b : List ℕ) → IsLine event a → IsLine event b → a ≡ b
-same_line (records output) a b first second = first ∙ sym second
-same_line cont a b first second = first ∙ sym second
-same_line (progress payload) a b first second = same_counts_line 80 (codes "rogress") payload a b (λ e. omega arith) first second
-same_line (stats payload) a b first second = same_counts_line 83 (codes "tats") payload a b (λ e. omega arith) first second
-same_line end a b first second = first ∙ sym second
-same_line (error code message) a b first second = first ∙ sym second
+same_line : OneCounts → (event : Event) (a b : List ℕ) → IsLine event a → IsLine event b → a ≡ b
+same_line law (records output) a b first second = first ∙ sym second
+same_line law cont a b first second = first ∙ sym second
+same_line law (progress payload) a b first second = same_counts_line law 80 (codes "rogress") payload a b (λ e. omega arith) first second
+same_line law (stats payload) a b first second = same_counts_line law 83 (codes "tats") payload a b (λ e. omega arith) first second
+same_line law end a b first second = first ∙ sym second
+same_line law (error code message) a b first second = first ∙ sym second
 
-same_added : (listing : Listing) (event : Event) (a b : List ℕ) → Adds listing event a → Adds listing event b → a ≡ b
-same_added Lines event a b first second = same_line event a b first second
-same_added Payloads event a b first second = first ∙ sym second
+same_added : OneCounts → (listing : Listing) (event : Event) (a b : List ℕ) → Adds listing event a → Adds listing event b → a ≡ b
+same_added law Lines event a b first second = same_line law event a b first second
+same_added law Payloads event a b first second = first ∙ sym second
 
-same_output : (listing : Listing) (events : List Event) (a b : List ℕ) → Lists listing events a → Lists listing events b → a ≡ b
-same_output listing [] a b first second = first ∙ sym second
-same_output listing (e ∷ events) a b first second =
-    first.4 ∙ ap (λ l. l ++ first.1) (same_added listing e first.0 second.0 first.2 second.2)
-    ∙ ap (λ l. second.0 ++ l) (same_output listing events first.1 second.1 first.3 second.3) ∙ sym second.4
+same_output : OneCounts → (listing : Listing) (events : List Event) (a b : List ℕ) → Lists listing events a → Lists listing events b → a ≡ b
+same_output law listing [] a b first second = first ∙ sym second
+same_output law listing (e ∷ events) a b first second =
+    first.4 ∙ ap (λ l. l ++ first.1) (same_added law listing e first.0 second.0 first.2 second.2)
+    ∙ ap (λ l. second.0 ++ l) (same_output law listing events first.1 second.1 first.3 second.3) ∙ sym second.4
 
 -- ---- one ending
 
@@ -162,13 +166,13 @@ one_meaning law input events other long long x y = long_long law input events ot
 
 -- ---- one answer
 
-pub one_answer : OneReading → (listing : Listing) (input before now other_now : List ℕ) (ending other_ending : Ending)
+pub one_answer : OneReading → OneCounts → (listing : Listing) (input before now other_now : List ℕ) (ending other_ending : Ending)
     → IsListed listing input ending (Some before) (Some now) → IsListed listing input other_ending (Some before) (Some other_now)
     → IsOneAnswer ending other_ending now other_now
-one_answer law listing input before now other_now ending other_ending first second =
+one_answer law counts listing input before now other_now ending other_ending first second =
     let same = one_meaning law input first.events second.events ending other_ending first.ends second.ends in
     let output : first.output ≡ second.output =
-    same_output listing second.events first.output second.output
+    same_output counts listing second.events first.output second.output
     (subst (λ (es : List Event). Lists listing es first.output) same.same_events first.lists) second.lists in
     record {
       same_ending = same.same_ending;

@@ -4,7 +4,7 @@ ghost use Rattle.select_tool.specs.declared.listing.Listing.{Listing};
 ghost use Rattle.select_tool.specs.Endings.{Ending};
 ghost use Rattle.select_tool.specs.Listings.{IsListed, IsOneAnswer};
 
-use event_frame::stream_has_one_reading;
+use event_frame::{counts_have_one_reading, stream_has_one_reading};
 
 /// An input of replies ends in one way, and one list of bytes is listed of it.
 pub fn replies_have_one_listing()
@@ -13,4 +13,5 @@ pub fn replies_have_one_listing()
         → IsOneAnswer ending other_ending now other_now }
 {
     stream_has_one_reading();
+    counts_have_one_reading();
 }

@@ -1,7 +1,7 @@
 use Rattle.std.proofs.Common.{[], None, inl, arith}
 use Rattle.event_frame.specs.Stream.{frames_of}
 use Rattle.event_frame.proofs.Unique.{same_reading}
-use Rattle.event_frame.proofs.Written.{written, spelled, counts_fit}
+use Rattle.event_frame.proofs.Written.{written, spelled, counts_fit, counts_written}
 use Rattle.event_frame.proofs.stream.written_frames_are_read.Goals as goal
 
 pub returns-clause-frame : goal.returns-clause-frame
@@ -16,3 +16,6 @@ returns-clause-only c events others rest fault fit reads =
 
 pub returns-clause-counts : goal.returns-clause-counts
 returns-clause-counts c = counts_fit
+
+pub returns-clause-counted : goal.returns-clause-counted
+returns-clause-counted c = counts_written
