@@ -2,13 +2,5 @@ pub mod LineLaws
 pub mod ListingLaws
 pub mod OneListing
 pub mod EndingLaws
-pub mod Contents
-pub mod Cutting
-pub mod Filling
-pub mod Framing
-pub mod AnswerLaws
-pub mod StreamLaws
-pub mod BoundLaws
-pub mod WindowSteps
 pub mod PrepareLaws
 pub mod ReplyLaws

@@ -3,9 +3,9 @@ use Rattle.std.proofs.Common.{◌≡◌, ℕ, ◌<◌, ◌≤◌, ◌⊎◌, tru
 use Rattle.std.proofs.lemmas.Bool.Decides.{leb_tells}
 use Rattle.select_request.specs.Reading.{HasFault, longest_body}
 use Rattle.select_request.specs.declared.fault.RequestFault.{RequestFault}
-use Rattle.select_tool.specs.declared.prepare.Asked.{Asked}
-use Rattle.select_tool.specs.declared.prepare.Asked.TheVariants.{Refused, Asks}
-use Rattle.select_tool.specs.Prepared.{Prepares}
+use Rattle.select_engine.specs.declared.asked.Asked.{Asked}
+use Rattle.select_engine.specs.declared.asked.Asked.TheVariants.{Refused, Asks}
+use Rattle.select_engine.specs.Prepared.{Prepares}
 use Rattle.select_tool.specs.Input.{IsReadOf, IsReadFrom}
 
 -- a body that is too long is refused whatever follows

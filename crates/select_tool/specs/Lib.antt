@@ -1,8 +1,3 @@
-pub mod Codes
-pub mod Pieces
-pub mod Records
-pub mod Answer
-pub mod Prepared
 pub mod Words
 pub mod Lines
 pub mod Endings
@@ -10,9 +5,4 @@ pub mod Listings
 pub mod Listening
 pub mod Statuses
 pub mod Input
-pub mod Begun
-pub mod Events
-pub mod LineAnswers
-pub mod Jobs
-pub mod Streaming
 pub mod Replies

@@ -5,18 +5,18 @@ use Rattle.std.specs.Io.KnownBytes.{Appends, Keeps}
 use Rattle.select_ports.specs.Causes.{Rose, RoseBy}
 use Rattle.select_ports.specs.Streams.{AppendsFront}
 use Rattle.select_ports.specs.Stored.{Objects, Opened, LacksName}
-use Rattle.select_tool.specs.declared.prepare.Asked.{Asked}
-use Rattle.select_tool.specs.declared.prepare.Asked.TheVariants.{Refused, Asks}
-use Rattle.select_tool.specs.declared.outcome.Outcome.{Outcome}
-use Rattle.select_tool.specs.declared.outcome.Outcome.TheVariants.{Done, Faulted}
+use Rattle.select_engine.specs.declared.asked.Asked.{Asked}
+use Rattle.select_engine.specs.declared.asked.Asked.TheVariants.{Refused, Asks}
+use Rattle.select_engine.specs.declared.outcome.Outcome.{Outcome}
+use Rattle.select_engine.specs.declared.outcome.Outcome.TheVariants.{Done, Faulted}
 use Rattle.select_tool.specs.declared.trouble.Trouble.{Trouble}
 use Rattle.select_tool.specs.declared.trouble.Trouble.TheVariants.{BadWords, NoSuchKey, InputFault, OutputFault, StoreFault, OutOfMemory, BadReply}
 use Rattle.select_tool.specs.Words.{Order, selects, lists, selected}
-use Rattle.select_tool.specs.Prepared.{Prepares}
-use Rattle.select_tool.specs.Records.{records}
-use Rattle.select_tool.specs.Answer.{processed}
-use Rattle.select_tool.specs.Events.{events, wrapped_frames}
-use Rattle.select_tool.specs.Jobs.{outcome_of}
+use Rattle.select_engine.specs.Prepared.{Prepares}
+use Rattle.select_engine.specs.Records.{records}
+use Rattle.select_engine.specs.Answer.{processed}
+use Rattle.select_engine.specs.Events.{events, wrapped_frames}
+use Rattle.select_engine.specs.Jobs.{outcome_of}
 use Rattle.select_tool.specs.Statuses.{line_of}
 
 -- the record limit of the program, in bytes

@@ -3,10 +3,10 @@ ghost use Rattle.std.specs.Prelude.{◌≡◌, ◌≢◌, ◌⊎◌, ◌+◌, �
 ghost use Rattle.std.specs.Io.KnownBytes.{Keeps};
 ghost use Rattle.select_ports.specs.Causes.{Rose};
 ghost use Rattle.select_tool.specs.Words.{selects, lists, ordered, selected, listed};
-ghost use Rattle.select_tool.specs.Records.{records};
-ghost use Rattle.select_tool.specs.Answer.{processed};
-ghost use Rattle.select_tool.specs.Jobs.{WroteEarly};
-ghost use Rattle.select_tool.specs.Replies.{IfTold, IfAsked, IsReplied, IsCutShort, IsHeld, IsLacking, Misses, IsStatusOf, StaysAsItWas, line_of_status, WritesUnlessFaulty, longest_record};
+ghost use Rattle.select_engine.specs.Records.{records};
+ghost use Rattle.select_engine.specs.Answer.{processed};
+ghost use Rattle.select_engine.specs.Jobs.{WroteEarly};
+ghost use Rattle.select_tool.specs.Replies.{IfTold, IfAsked, IsReplied, IsCutShort, IsHeld, IsLacking, Misses, IsStatusOf, StaysAsItWas, line_of_status, status_of_outcome, WritesUnlessFaulty, longest_record};
 ghost use Rattle.select_tool.specs.Statuses.{status_of, line_of};
 ghost use Rattle.select_tool.specs.Listings.{IfListed, IsAnswered, IsListedInPart, IsRefused, FailsInput, IsUnread};
 
@@ -15,6 +15,7 @@ use crate::replies::list;
 use crate::select::select;
 use crate::trouble::Trouble;
 use crate::words::{Command, command_of};
+use select_engine::Outcome;
 use select_ports::{Sink, Source, Store, write_all};
 use std::alloc::Global;
 
@@ -144,8 +145,18 @@ fn run_select<S: Store, I: Source, O: Sink, E: Sink>(
     ensures held { S.held store.new ≡ S.held store.old }
 {
     match select(alloc, name, store, input, out) {
-        Ok(outcome) => outcome.status(),
+        Ok(outcome) => status_when_done(&outcome),
         Err(trouble) => report(err, trouble),
+    }
+}
+
+// The exit status of a command that was done.
+fn status_when_done(outcome: &Outcome) -> u8
+    ensures { result ≡ status_of_outcome outcome.now }
+{
+    match outcome {
+        Outcome::Done(_) => 0,
+        Outcome::Faulted { .. } => 1,
     }
 }
 

@@ -5,8 +5,8 @@ ghost use Rattle.select_ports.specs.Causes.{HasCause, Rose};
 ghost use Rattle.select_tool.specs.Input.{IsReadFrom};
 ghost use Rattle.select_tool.specs.Replies.{CauseOf};
 
-use crate::room::room;
 use crate::trouble::Trouble;
+use select_engine::room;
 use select_ports::{Failed, Source};
 use select_request::LONGEST_BODY;
 use std::alloc::Global;

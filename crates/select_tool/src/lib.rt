@@ -2,19 +2,12 @@
 //! status, over any store, input and outputs.
 #![tactic(auto)]
 
-mod code;
 mod commands;
-mod content;
 mod input;
-mod job;
 mod laws;
 mod lister;
 mod listing;
-mod outcome;
-mod prepare;
 mod replies;
-mod reply;
-mod room;
 mod select;
 mod show;
 mod trouble;

@@ -9,9 +9,9 @@ ghost use Rattle.select_tool.specs.Listening.{IsReady, Steps, Feeds, GoesOver, F
 
 use crate::lister::Lister;
 use crate::listing::Listing;
-use crate::room::room;
 use crate::trouble::Trouble;
 use event_frame::{FrameReader, stream_has_one_reading};
+use select_engine::room;
 use select_ports::{Failed, Sink, Source};
 use std::alloc::Global;
 

@@ -5,20 +5,16 @@ ghost use Rattle.select_ports.specs.Causes.{Rose};
 ghost use Rattle.select_ports.specs.Streams.{AppendsFront};
 ghost use Rattle.select_ports.specs.Stored.{IsOpen, OpensName};
 ghost use Rattle.line_window.specs.Sliding.{Tells};
-ghost use Rattle.select_tool.specs.Prepared.{Prepares};
-ghost use Rattle.select_tool.specs.Records.{records};
-ghost use Rattle.select_tool.specs.Answer.{processed};
-ghost use Rattle.select_tool.specs.Jobs.{WroteEarly};
-ghost use Rattle.select_tool.specs.Events.{wrapped_frames, error_event};
+ghost use Rattle.select_engine.specs.Prepared.{Prepares};
+ghost use Rattle.select_engine.specs.Records.{records};
+ghost use Rattle.select_engine.specs.Answer.{processed};
+ghost use Rattle.select_engine.specs.Jobs.{WroteEarly};
+ghost use Rattle.select_engine.specs.Events.{wrapped_frames, error_event};
 ghost use Rattle.select_tool.specs.Replies.{IfTold, Replied, IsCutShort, IsLacking, IsMissingOrFault, Misses, CauseOf, reply_frames, reply_outcome, longest_record};
 
-use crate::code::Code;
 use crate::input::read_body;
-use crate::job::run_job;
-use crate::outcome::{EngineError, Outcome};
-use crate::prepare::{Asked, prepare};
-use crate::reply::ReplyWriter;
 use crate::trouble::Trouble;
+use select_engine::{Asked, Code, EngineError, Outcome, prepare, refuse, run_job};
 use select_ports::{Failed, Found, FrameSink, Limits, Plain, Sink, Source, Store};
 use std::alloc::Global;
 
@@ -114,7 +110,7 @@ fn write_reply<S: Store, K: FrameSink>(
     ensures rest { K.rest out.new ≡ K.rest out.old }
 {
     match asked {
-        Asked::Refused { code, at } => refuse(alloc, *code, *at, out),
+        Asked::Refused { code, at } => write_refusal(alloc, *code, *at, out),
         Asked::Asks(_) => match run_job(alloc, LIMITS, store, size, out) {
             Ok(outcome) => Ok(outcome),
             Err(EngineError::StoreFault) => Err(Trouble::StoreFault),
@@ -125,7 +121,12 @@ fn write_reply<S: Store, K: FrameSink>(
 }
 
 // Writes the one Error event of a refusal.
-fn refuse<K: FrameSink>(alloc: Global, code: Code, at: u64, out: &mut K) -> Result<Outcome, Trouble>
+fn write_refusal<K: FrameSink>(
+    alloc: Global,
+    code: Code,
+    at: u64,
+    out: &mut K,
+) -> Result<Outcome, Trouble>
     ensures reply { MatchResult result
         (λ outcome. Appends (K.written out.old) (K.written out.new) (wrapped_frames K.wrap (error_event code at ∷ []))
         × (outcome ≡ Outcome.Faulted code at))
@@ -134,11 +135,10 @@ fn refuse<K: FrameSink>(alloc: Global, code: Code, at: u64, out: &mut K) -> Resu
         (Rose (K.faults out.old) (K.faults out.new)) ⊥ (Keeps (K.written out.old) (K.written out.new))) }
     ensures rest { K.rest out.new ≡ K.rest out.old }
 {
-    let Ok(mut reply) = ReplyWriter::make(alloc) else {
-        return Err(Trouble::OutOfMemory);
-    };
-    match reply.fault(out, code, at) {
-        Ok(_) => Ok(Outcome::Faulted { code, at }),
-        Err(Failed) => Err(Trouble::OutputFault),
+    match refuse(alloc, code, at, out) {
+        Ok(outcome) => Ok(outcome),
+        Err(EngineError::StoreFault) => Err(Trouble::StoreFault),
+        Err(EngineError::WriteFault) => Err(Trouble::OutputFault),
+        Err(EngineError::OutOfMemory) => Err(Trouble::OutOfMemory),
     }
 }

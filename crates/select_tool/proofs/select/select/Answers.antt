@@ -1,10 +1,10 @@
 use Rattle.std.proofs.Common.{◌≡◌, ◌-◌, arith}
 use Rattle.std.proofs.KnownBytes.{Keeps-refl}
-use Rattle.select_tool.specs.Records.{records}
-use Rattle.select_tool.specs.Answer.{processed}
-use Rattle.select_tool.specs.Jobs.{WroteEarly}
+use Rattle.select_engine.specs.Records.{records}
+use Rattle.select_engine.specs.Answer.{processed}
+use Rattle.select_engine.specs.Jobs.{WroteEarly}
 use Rattle.select_tool.specs.Replies.{longest_record}
-use Rattle.select_tool.proofs.BoundLaws.{wrote_none}
+use Rattle.select_engine.proofs.BoundLaws.{wrote_none}
 use Rattle.select_tool.proofs.ReplyLaws.{all_told}
 use Rattle.select_tool.proofs.select.select.Goals as goal
 

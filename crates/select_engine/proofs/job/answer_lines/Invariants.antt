@@ -1,0 +1,27 @@
+use Rattle.std.proofs.Common.{◌≡◌, ℕ, ◌+◌, ◌-◌, ◌≤◌, List, false}
+use Rattle.select_ports.specs.Stored.{IsOpen}
+use Rattle.line_window.specs.Sliding.{Tells, Holds, IsSound, SameRules, Took, left, place}
+use Rattle.select_engine.specs.Streaming.{Streamed}
+use Rattle.select_engine.proofs.job.answer_lines.Given as goal
+
+abbrev pub invariant-lines : goal.invariant-lines
+invariant-lines g l = record {
+  open_ : IsOpen (g.S.Store.current l.store) l.window.size;
+  sound : IsSound l.window;
+  works : l.window.failed ≡ false;
+  rules : SameRules l.initial.window l.window;
+  forward : l.initial.window.upto ≤ l.window.upto;
+  taken : Took (l.window.upto - l.initial.window.upto) (g.S.Store.taken l.initial.store) (g.S.Store.taken l.store);
+  held : g.S.Store.held l.store ≡ g.S.Store.held l.initial.store;
+  current : g.S.Store.current l.store ≡ g.S.Store.current l.initial.store;
+  absent : g.S.Store.absent l.store ≡ g.S.Store.absent l.initial.store;
+  store_faults : g.S.Store.faults l.initial.store ≤ g.S.Store.faults l.store;
+  out_faults : g.K.FrameSink.faults l.initial.out ≤ g.K.FrameSink.faults l.out;
+  rest : g.K.FrameSink.rest l.out ≡ g.K.FrameSink.rest l.initial.out;
+  told : (object : List ℕ) → Tells (g.S.Store.current l.initial.store) object → Holds object l.initial.window
+      → Streamed g.K.FrameSink.wrap l.initial.window.longest object (left object l.initial.window) l.window l.reply
+      (g.K.FrameSink.written l.initial.out) (g.K.FrameSink.written l.out);
+}
+
+abbrev pub decreases-lines : goal.decreases-lines
+decreases-lines g l = l.window.last + 1 - place l.window

@@ -1,0 +1,10 @@
+pub mod Answer
+pub mod Begun
+pub mod Codes
+pub mod Events
+pub mod Jobs
+pub mod LineAnswers
+pub mod Pieces
+pub mod Prepared
+pub mod Records
+pub mod Streaming
