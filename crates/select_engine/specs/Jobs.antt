@@ -3,7 +3,7 @@ use Rattle.std.specs.Prelude.{◌≡◌, ℕ, ◌+◌, ◌*◌, nat_le, List, ma
 use Rattle.std.specs.Io.KnownBytes.{Appends, Keeps}
 use Rattle.select_ports.specs.Causes.{Rose}
 use Rattle.select_ports.specs.Streams.{IsFront, AppendsFront}
-use Rattle.event_frame.specs.Event.{records as records_event}
+use Rattle.event_frame.specs.Event.{Event, records as records_event}
 use Rattle.select_engine.specs.declared.code.Code.{Code}
 use Rattle.select_engine.specs.declared.outcome.Outcome.{Outcome}
 use Rattle.select_engine.specs.declared.outcome.Outcome.TheVariants.{Done, Faulted}
@@ -26,10 +26,14 @@ outcome_of rs = ending_of rs (fault rs)
 abbrev pub answer_frames : (List ℕ → List ℕ) → List Record → List ℕ
 answer_frames wrap rs = wrapped_frames wrap (answer_events rs)
 
--- the answer over the records was written whole and ended so; or a front of it was written
+-- the frames of these events, each in its wrapping, were written whole, and the reply ended so; or a front of them was written
+abbrev pub WritesReply : {E : Type 0} → (List ℕ → List ℕ) → List Event → Outcome → Option (List ℕ) → Option (List ℕ) → Result Outcome E → Type 0
+WritesReply wrap es ended before now result =
+    MatchResult result (λ outcome. Appends before now (wrapped_frames wrap es) × (outcome ≡ ended)) (λ _. AppendsFront before now (wrapped_frames wrap es))
+
+-- the reply is the answer over the records
 abbrev pub Answers : (List ℕ → List ℕ) → List Record → Option (List ℕ) → Option (List ℕ) → Result Outcome EngineError → Type 0
-Answers wrap rs before now result =
-    MatchResult result (λ outcome. Appends before now (answer_frames wrap rs) × (outcome ≡ outcome_of rs)) (λ _. AppendsFront before now (answer_frames wrap rs))
+Answers wrap rs before now result = WritesReply wrap (answer_events rs) (outcome_of rs) before now result
 
 -- the frames of the whole pieces of an output
 abbrev pub whole_frames : (List ℕ → List ℕ) → List ℕ → List ℕ

@@ -1,13 +1,11 @@
 //! Running a query over the store's open object: each record is lent from a window and answered before the next is read.
-ghost use Rattle.std.specs.Prelude.{◌≡◌, ℕ, ◌+◌, ◌-◌, ◌^◌, ◌<◌, ◌≤◌, [], ◌∷◌, false, List, length, Err, IfErr, MatchResult};
-ghost use Rattle.std.specs.Io.KnownBytes.{Appends};
-ghost use Rattle.select_ports.specs.Streams.{AppendsFront};
+ghost use Rattle.std.specs.Prelude.{◌≡◌, ℕ, ◌+◌, ◌-◌, ◌^◌, ◌<◌, ◌≤◌, [], ◌∷◌, false, List, length, Err, IfErr};
 ghost use Rattle.select_ports.specs.Stored.{IsOpen};
 ghost use Rattle.line_window.specs.Sliding.{Tells, Holds, IsSound, left};
 ghost use Rattle.select_engine.specs.Records.{records, records_at, delimiter};
 ghost use Rattle.select_engine.specs.Answer.{processed};
-ghost use Rattle.select_engine.specs.Events.{wrapped_frames, error_event};
-ghost use Rattle.select_engine.specs.Jobs.{Answers, WroteEarly, HasEngineCause};
+ghost use Rattle.select_engine.specs.Events.{error_event};
+ghost use Rattle.select_engine.specs.Jobs.{Answers, WritesReply, WroteEarly, HasEngineCause};
 
 use crate::code::Code;
 use crate::outcome::{EngineError, Outcome};
@@ -129,10 +127,8 @@ pub fn refuse<K: FrameSink>(
     at: u64,
     out: &mut K,
 ) -> Result<Outcome, EngineError>
-    ensures reply { MatchResult result
-        (λ outcome. Appends (K.written out.old) (K.written out.new) (wrapped_frames K.wrap (error_event code at ∷ []))
-        × (outcome ≡ Outcome.Faulted code at))
-        (λ _. AppendsFront (K.written out.old) (K.written out.new) (wrapped_frames K.wrap (error_event code at ∷ []))) }
+    ensures reply { WritesReply K.wrap (error_event code at ∷ []) (Outcome.Faulted code at)
+        (K.written out.old) (K.written out.new) result }
     ensures cause { IfErr result (HasEngineCause 0 0
         (K.faults out.old) (K.faults out.new) (K.written out.old) (K.written out.new)) }
     ensures never { result ≡ Err EngineError.StoreFault → ⊥ }

@@ -1,7 +1,7 @@
 -- What `show` and `records` write for an input of replies.
 use Rattle.std.specs.Prelude.{◌≡◌, ◌⊎◌, ℕ, ◌+◌, ◌-◌, ◌^◌, ◌≤◌, min, List, [], ◌∷◌, ◌++◌, Option, None, Some, IfSome, if◌then◌else◌, String}
 use Rattle.std.specs.declared.alloc.Global.{Global}
-use Rattle.std.specs.Io.KnownBytes.{Appends, Keeps}
+use Rattle.std.specs.Io.KnownBytes.{Appends}
 use Rattle.select_ports.specs.Causes.{Rose}
 use Rattle.select_ports.specs.Streams.{AppendsFront}
 use Rattle.event_frame.specs.Event.{Event, records, cont, progress, stats, end, error}
@@ -84,10 +84,6 @@ TookTooMany before now = min (before + longest_input + 1) (2 ^ 64 - 1) ≤ now
 abbrev pub FailsInput : Option Listing → ℕ → ℕ → ℕ → ℕ → Type 0
 FailsInput None faults_before faults_now taken_before taken_now = Rose faults_before faults_now
 FailsInput (Some listing) faults_before faults_now taken_before taken_now = Rose faults_before faults_now ⊎ TookTooMany taken_before taken_now
-
--- nothing was read
-abbrev pub IsUnread : ℕ → ℕ → Option (List ℕ) → Option (List ℕ) → Type 0
-IsUnread taken_before taken_now left_before left_now = (taken_now ≡ taken_before) × Keeps left_before left_now
 
 -- the cause of each trouble of a listing
 abbrev pub ListingCause : Trouble → (ℕ → Type 0) → Type 0 → Type 0 → Type 0 → Type 0

@@ -1,5 +1,5 @@
 -- What a command answers to a body about an object.
-use Rattle.std.specs.Prelude.{◌≡◌, ◌⊎◌, ℕ, ◌<◌, List, [], Option, None, Some, IfSome, IsSome, ◌==◌, if◌then◌else◌, String}
+use Rattle.std.specs.Prelude.{◌≡◌, ◌⊎◌, ℕ, ◌+◌, ◌<◌, ◌≤◌, List, [], Option, None, Some, IfSome, IsSome, ◌==◌, if◌then◌else◌, String}
 use Rattle.std.specs.declared.alloc.Global.{Global}
 use Rattle.std.specs.Io.KnownBytes.{Appends, Keeps}
 use Rattle.select_ports.specs.Causes.{Rose, RoseBy}
@@ -16,7 +16,7 @@ use Rattle.select_engine.specs.Prepared.{Prepares}
 use Rattle.select_engine.specs.Records.{records}
 use Rattle.select_engine.specs.Answer.{processed}
 use Rattle.select_engine.specs.Events.{events, wrapped_frames}
-use Rattle.select_engine.specs.Jobs.{outcome_of}
+use Rattle.select_engine.specs.Jobs.{outcome_of, WroteEarly}
 use Rattle.select_tool.specs.Statuses.{line_of}
 
 -- the record limit of the program, in bytes
@@ -44,6 +44,11 @@ pub record RepliedInPart (object body : List ℕ) (before now : Option (List ℕ
   pub asked : Asked
   pub prepared : Prepares body asked
   pub written : AppendsFront before now (reply_frames (λ frame. frame) object asked)
+
+-- output isn't held back: where so many bytes of the object were read, the whole pieces that the early records' output reaches have
+-- been written
+abbrev pub IsNotHeldBack : (List ℕ → List ℕ) → List ℕ → ℕ → Option (List ℕ) → Option (List ℕ) → Type 0
+IsNotHeldBack wrap object taken before now = WroteEarly wrap longest_record taken (processed (records longest_record object)) before now
 
 -- nothing was written, or a front of the reply
 abbrev pub IsCutShort : List ℕ → List ℕ → Option (List ℕ) → Option (List ℕ) → Type 0
@@ -73,6 +78,11 @@ pub record Misses (held : Option Objects) (name : List ℕ) (current : Opened) (
   pub lacks : LacksName held name
   pub none_open : current ≡ None
   pub counted : RoseBy 1 absent_before absent_now
+
+-- no byte of the open object was read twice; with none open nothing was read
+abbrev pub TookOnce : Opened → ℕ → ℕ → Type 0
+TookOnce None before now = now ≡ before
+TookOnce (Some object) before now = now ≤ before + object.0
 
 -- the cause of each trouble of a command whose words fit
 abbrev pub CauseOf : Trouble → Type 0 → Type 0 → Type 0 → Type 0 → Type 0 → Type 0

@@ -3,12 +3,10 @@ ghost use Rattle.std.specs.Prelude.{◌≡◌, ◌≢◌, ◌⊎◌, ◌+◌, �
 ghost use Rattle.std.specs.Io.KnownBytes.{Keeps};
 ghost use Rattle.select_ports.specs.Causes.{Rose};
 ghost use Rattle.select_tool.specs.Words.{selects, lists, ordered, selected, listed};
-ghost use Rattle.select_engine.specs.Records.{records};
-ghost use Rattle.select_engine.specs.Answer.{processed};
-ghost use Rattle.select_engine.specs.Jobs.{WroteEarly};
-ghost use Rattle.select_tool.specs.Replies.{IfTold, IfAsked, IsReplied, IsCutShort, IsHeld, IsLacking, Misses, IsStatusOf, StaysAsItWas, line_of_status, status_of_outcome, WritesUnlessFaulty, longest_record};
+ghost use Rattle.select_tool.specs.Input.{IsUnread, TookBody};
+ghost use Rattle.select_tool.specs.Replies.{IfTold, IfAsked, IsReplied, IsCutShort, IsHeld, IsLacking, IsNotHeldBack, Misses, TookOnce, IsStatusOf, StaysAsItWas, line_of_status, status_of_outcome, WritesUnlessFaulty};
 ghost use Rattle.select_tool.specs.Statuses.{status_of, line_of};
-ghost use Rattle.select_tool.specs.Listings.{IfListed, IsAnswered, IsListedInPart, IsRefused, FailsInput, IsUnread};
+ghost use Rattle.select_tool.specs.Listings.{IfListed, IsAnswered, IsListedInPart, IsRefused, FailsInput};
 
 use crate::listing::Listing;
 use crate::replies::list;
@@ -57,8 +55,8 @@ pub fn run<S: Store, I: Source, O: Sink, E: Sink>(
         (λ object body. IsCutShort object body (O.written out.old) (O.written out.new)) }
     // Output isn't held back: where the store failed, the whole pieces that the early records' output reaches have been written.
     ensures early { result ≡ 5 → IfAsked words.now (S.held store.old) (I.left input.old)
-        (λ object body. WroteEarly (λ frame. frame) longest_record (S.taken store.new - S.taken store.old)
-        (processed (records longest_record object)) (O.written out.old) (O.written out.new)) }
+        (λ object body. IsNotHeldBack (λ frame. frame) object (S.taken store.new - S.taken store.old)
+        (O.written out.old) (O.written out.new)) }
     // `show` and `records`. At status 0 and 1 the whole input is replies, and what their events add was written. 1 tells that one
     // of them has an Error event.
     ensures listed { result < 2 → IfListed words.now (I.left input.old)
@@ -68,7 +66,8 @@ pub fn run<S: Store, I: Source, O: Sink, E: Sink>(
         (λ listing bytes. IsListedInPart listing bytes (O.written out.old) (O.written out.new)) }
     ensures only { IsStatusOf (ordered words.now) result }
     ensures bad_words { IfNone (ordered words.now) (result ≡ 2) }
-    ensures two { result ≡ 2 → Keeps (O.written out.old) (O.written out.new) × IfSome (selected words.now)
+    ensures two { result ≡ 2 → Keeps (O.written out.old) (O.written out.new)
+        × IsUnread (I.taken input.old) (I.taken input.new) (I.left input.old) (I.left input.new) × IfSome (selected words.now)
         (λ name. Misses (S.held store.old) name (S.current store.new) (S.absent store.old) (S.absent store.new)) }
     ensures missing { IfSome (selected words.now) (λ name. IsLacking (S.held store.old) name → (result ≡ 2) ⊎ (result ≡ 5)) }
     ensures three { result ≡ 3 → FailsInput (listed words.now) (I.faults input.old) (I.faults input.new)
@@ -96,8 +95,9 @@ pub fn run<S: Store, I: Source, O: Sink, E: Sink>(
     ensures line { result ≢ 8 → WritesUnlessFaulty (E.faults err.old) (E.faults err.new) (E.written err.old) (E.written err.new)
         (line_of_status (ordered words.now) result) }
     // No byte of the object is read twice.
-    ensures taken { IfSome (selected words.now) (λ name. IfSome (S.current store.new)
-        (λ object. S.taken store.new ≤ S.taken store.old + object.0)) }
+    ensures taken { IfSome (selected words.now) (λ name. TookOnce (S.current store.new) (S.taken store.old) (S.taken store.new)) }
+    // A body that is too long is read to one byte past the limit.
+    ensures body { IfSome (selected words.now) (λ name. TookBody (I.taken input.old) (I.taken input.new)) }
     ensures held { S.held store.new ≡ S.held store.old }
     // `select` alone uses the store.
     ensures unused { IfNone (selected words.now) (StaysAsItWas (S.current store.old) (S.current store.new)
@@ -124,10 +124,11 @@ fn run_select<S: Store, I: Source, O: Sink, E: Sink>(
     ensures front { 1 < result → IfTold (S.held store.old) (I.left input.old) name.now
         (λ object body. IsCutShort object body (O.written out.old) (O.written out.new)) }
     ensures early { result ≡ 5 → IfTold (S.held store.old) (I.left input.old) name.now
-        (λ object body. WroteEarly (λ frame. frame) longest_record (S.taken store.new - S.taken store.old)
-        (processed (records longest_record object)) (O.written out.old) (O.written out.new)) }
+        (λ object body. IsNotHeldBack (λ frame. frame) object (S.taken store.new - S.taken store.old)
+        (O.written out.old) (O.written out.new)) }
     ensures only { (result < 6) ⊎ (result ≡ 7) }
     ensures two { result ≡ 2 → Keeps (O.written out.old) (O.written out.new)
+        × IsUnread (I.taken input.old) (I.taken input.new) (I.left input.old) (I.left input.new)
         × Misses (S.held store.old) name.now (S.current store.new) (S.absent store.old) (S.absent store.new) }
     ensures missing { IsLacking (S.held store.old) name.now → (result ≡ 2) ⊎ (result ≡ 5) }
     ensures three { result ≡ 3 → Rose (I.faults input.old) (I.faults input.new) }
@@ -141,7 +142,8 @@ fn run_select<S: Store, I: Source, O: Sink, E: Sink>(
         → (result < 2) ⊎ (result ≡ 7) }
     ensures line { WritesUnlessFaulty (E.faults err.old) (E.faults err.new) (E.written err.old) (E.written err.new)
         (line_of_status (Some (selects name.now)) result) }
-    ensures taken { IfSome (S.current store.new) (λ object. S.taken store.new ≤ S.taken store.old + object.0) }
+    ensures taken { TookOnce (S.current store.new) (S.taken store.old) (S.taken store.new) }
+    ensures body { TookBody (I.taken input.old) (I.taken input.new) }
     ensures held { S.held store.new ≡ S.held store.old }
 {
     match select(alloc, name, store, input, out) {

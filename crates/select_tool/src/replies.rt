@@ -4,7 +4,8 @@ ghost use Rattle.std.specs.Io.KnownBytes.{Consumes, Keeps, IsAtEnd};
 ghost use Rattle.select_ports.specs.Causes.{Rose, RoseBy};
 ghost use Rattle.event_frame.specs.Reader.{fresh_reader};
 ghost use Rattle.select_tool.specs.Endings.{replied, bad};
-ghost use Rattle.select_tool.specs.Listings.{IsListed, IsListedInPart, IsUnread, ListingCause, WentOver};
+ghost use Rattle.select_tool.specs.Input.{IsUnread};
+ghost use Rattle.select_tool.specs.Listings.{IsListed, IsListedInPart, ListingCause, WentOver};
 ghost use Rattle.select_tool.specs.Listening.{IsReady, Steps, Feeds, GoesOver, Finishes};
 
 use crate::lister::Lister;

@@ -1,16 +1,14 @@
 //! The command `select NAME`: the reply to the body on the input, about the object of that name.
-ghost use Rattle.std.specs.Prelude.{◌≡◌, ◌+◌, ◌-◌, ◌≤◌, ℕ, List, None, ⊤, [], ◌∷◌, Err, IfOk, IfErr, IfSome, IsErrAnd, MatchResult};
-ghost use Rattle.std.specs.Io.KnownBytes.{Appends, Keeps};
+ghost use Rattle.std.specs.Prelude.{◌≡◌, ◌+◌, ◌-◌, ◌≤◌, ℕ, List, None, ⊤, [], ◌∷◌, Err, IfOk, IfErr, IfSome, IsErrAnd};
+ghost use Rattle.std.specs.Io.KnownBytes.{Keeps};
 ghost use Rattle.select_ports.specs.Causes.{Rose};
-ghost use Rattle.select_ports.specs.Streams.{AppendsFront};
 ghost use Rattle.select_ports.specs.Stored.{IsOpen, OpensName};
 ghost use Rattle.line_window.specs.Sliding.{Tells};
 ghost use Rattle.select_engine.specs.Prepared.{Prepares};
-ghost use Rattle.select_engine.specs.Records.{records};
-ghost use Rattle.select_engine.specs.Answer.{processed};
-ghost use Rattle.select_engine.specs.Jobs.{WroteEarly};
-ghost use Rattle.select_engine.specs.Events.{wrapped_frames, error_event};
-ghost use Rattle.select_tool.specs.Replies.{IfTold, Replied, IsCutShort, IsLacking, IsMissingOrFault, Misses, CauseOf, reply_frames, reply_outcome, longest_record};
+ghost use Rattle.select_engine.specs.Events.{events, error_event};
+ghost use Rattle.select_engine.specs.Jobs.{WritesReply};
+ghost use Rattle.select_tool.specs.Input.{IsUnread, TookBody};
+ghost use Rattle.select_tool.specs.Replies.{IfTold, Replied, IsCutShort, IsLacking, IsMissingOrFault, IsNotHeldBack, Misses, CauseOf, TookOnce, reply_outcome, longest_record};
 
 use crate::input::read_body;
 use crate::trouble::Trouble;
@@ -34,16 +32,18 @@ pub(crate) fn select<S: Store, I: Source, O: Sink>(
     ensures front { IfErr result (λ trouble. IfTold (S.held store.old) (I.left input.old) name.now
         (λ object body. IsCutShort object body (O.written out.old) (O.written out.new))) }
     ensures early { result ≡ Err Trouble.StoreFault → IfTold (S.held store.old) (I.left input.old) name.now
-        (λ object body. WroteEarly (λ frame. frame) longest_record (S.taken store.new - S.taken store.old)
-        (processed (records longest_record object)) (O.written out.old) (O.written out.new)) }
+        (λ object body. IsNotHeldBack (λ frame. frame) object (S.taken store.new - S.taken store.old)
+        (O.written out.old) (O.written out.new)) }
     ensures cause { IfErr result (λ trouble. CauseOf trouble
-        (Misses (S.held store.old) name.now (S.current store.new) (S.absent store.old) (S.absent store.new))
+        (Misses (S.held store.old) name.now (S.current store.new) (S.absent store.old) (S.absent store.new)
+        × IsUnread (I.taken input.old) (I.taken input.new) (I.left input.old) (I.left input.new))
         (Rose (I.faults input.old) (I.faults input.new))
         (Rose (O.faults out.old) (O.faults out.new))
         (Rose (S.faults store.old) (S.faults store.new))
         (Keeps (O.written out.old) (O.written out.new))) }
     ensures missing { IsLacking (S.held store.old) name.now → IsErrAnd result IsMissingOrFault }
-    ensures taken { IfSome (S.current store.new) (λ object. S.taken store.new ≤ S.taken store.old + object.0) }
+    ensures taken { TookOnce (S.current store.new) (S.taken store.old) (S.taken store.new) }
+    ensures body { TookBody (I.taken input.old) (I.taken input.new) }
     ensures held { S.held store.new ≡ S.held store.old }
 {
     let size = open(store, name)?;
@@ -56,7 +56,8 @@ fn open<S: Store>(store: &mut S, name: &str) -> Result<u64, Trouble>
     ensures opened { IfOk result (λ size. OpensName (S.held store.old) name.now size (S.current store.new)) }
     ensures cause { IfErr result (λ trouble. CauseOf trouble
         (Misses (S.held store.old) name.now (S.current store.new) (S.absent store.old) (S.absent store.new))
-        ⊥ ⊥ ((S.current store.new ≡ None) × Rose (S.faults store.old) (S.faults store.new)) ⊤) }
+        ⊥ ⊥ (Rose (S.faults store.old) (S.faults store.new)) ⊤) }
+    ensures closed { IfErr result (λ trouble. S.current store.new ≡ None) }
     ensures missing { IsLacking (S.held store.old) name.now → IsErrAnd result IsMissingOrFault }
     ensures memory { result ≡ Err Trouble.OutOfMemory → ⊥ }
     ensures taken { S.taken store.new ≡ S.taken store.old }
@@ -74,6 +75,7 @@ fn open<S: Store>(store: &mut S, name: &str) -> Result<u64, Trouble>
 fn read_asked<I: Source>(alloc: Global, input: &mut I) -> Result<Asked, Trouble>
     ensures asked { IfOk result (λ asked. IfSome (I.left input.old) (λ body. Prepares body asked)) }
     ensures cause { IfErr result (λ trouble. CauseOf trouble ⊥ (Rose (I.faults input.old) (I.faults input.new)) ⊥ ⊥ ⊤) }
+    ensures taken { TookBody (I.taken input.old) (I.taken input.new) }
 {
     let body = read_body(alloc, input)?;
     match prepare(alloc, &body) {
@@ -91,13 +93,11 @@ fn write_reply<S: Store, K: FrameSink>(
     out: &mut K,
 ) -> Result<Outcome, Trouble>
     requires { IsOpen (S.current store.old) size }
-    ensures reply { (object : List ℕ) → Tells (S.current store.old) object → MatchResult result
-        (λ outcome. Appends (K.written out.old) (K.written out.new) (reply_frames K.wrap object asked.now)
-        × (outcome ≡ reply_outcome object asked.now))
-        (λ _. AppendsFront (K.written out.old) (K.written out.new) (reply_frames K.wrap object asked.now)) }
+    ensures reply { (object : List ℕ) → Tells (S.current store.old) object
+        → WritesReply K.wrap (events longest_record object asked.now) (reply_outcome object asked.now)
+        (K.written out.old) (K.written out.new) result }
     ensures early { (object : List ℕ) → Tells (S.current store.old) object → result ≡ Err Trouble.StoreFault
-        → WroteEarly K.wrap longest_record (S.taken store.new - S.taken store.old)
-        (processed (records longest_record object)) (K.written out.old) (K.written out.new) }
+        → IsNotHeldBack K.wrap object (S.taken store.new - S.taken store.old) (K.written out.old) (K.written out.new) }
     ensures cause { IfErr result (λ trouble. CauseOf trouble ⊥ ⊥
         (Rose (K.faults out.old) (K.faults out.new))
         (Rose (S.faults store.old) (S.faults store.new))
@@ -127,10 +127,8 @@ fn write_refusal<K: FrameSink>(
     at: u64,
     out: &mut K,
 ) -> Result<Outcome, Trouble>
-    ensures reply { MatchResult result
-        (λ outcome. Appends (K.written out.old) (K.written out.new) (wrapped_frames K.wrap (error_event code at ∷ []))
-        × (outcome ≡ Outcome.Faulted code at))
-        (λ _. AppendsFront (K.written out.old) (K.written out.new) (wrapped_frames K.wrap (error_event code at ∷ []))) }
+    ensures reply { WritesReply K.wrap (error_event code at ∷ []) (Outcome.Faulted code at)
+        (K.written out.old) (K.written out.new) result }
     ensures cause { IfErr result (λ trouble. CauseOf trouble ⊥ ⊥
         (Rose (K.faults out.old) (K.faults out.new)) ⊥ (Keeps (K.written out.old) (K.written out.new))) }
     ensures rest { K.rest out.new ≡ K.rest out.old }

@@ -16,5 +16,6 @@ loop-len-preserved g c =
       within = omega (arith, length-filled len (length before - len) before piece within refl room);
       taken = rw (take-filled len (length before - len) count before piece within some)
           (Consumes-trans _ _ _ _ _ c.loop-len.invariant.taken c.in_ok-count.ensures.bytes.0);
+      count = omega (arith, c.loop-len.invariant.count, c.in_ok-count.ensures.taken);
       faults = omega (arith, c.loop-len.invariant.faults, c.in_ok-count.ensures.faults.kept);
     }
