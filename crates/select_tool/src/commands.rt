@@ -3,7 +3,7 @@ ghost use Rattle.std.specs.Prelude.{◌≡◌, ◌≢◌, ◌⊎◌, ◌+◌, �
 ghost use Rattle.std.specs.Io.KnownBytes.{Keeps};
 ghost use Rattle.select_ports.specs.Causes.{Rose};
 ghost use Rattle.select_tool.specs.Words.{selects, lists, ordered, selected, listed};
-ghost use Rattle.select_tool.specs.Input.{IsUnread, TookBody};
+ghost use Rattle.select_tool.specs.Input.{IsUnread, most_of_body, most_of_replies, most_read};
 ghost use Rattle.select_tool.specs.Replies.{IfTold, IfAsked, IsReplied, IsCutShort, IsHeld, IsLacking, IsNotHeldBack, Misses, TookOnce, IsStatusOf, StaysAsItWas, line_of_status, status_of_outcome, WritesUnlessFaulty};
 ghost use Rattle.select_tool.specs.Statuses.{status_of, line_of};
 ghost use Rattle.select_tool.specs.Listings.{IfListed, IsAnswered, IsListedInPart, IsRefused, FailsInput};
@@ -72,6 +72,8 @@ pub fn run<S: Store, I: Source, O: Sink, E: Sink>(
     ensures missing { IfSome (selected words.now) (λ name. IsLacking (S.held store.old) name → (result ≡ 2) ⊎ (result ≡ 5)) }
     ensures three { result ≡ 3 → FailsInput (listed words.now) (I.faults input.old) (I.faults input.new)
         (I.taken input.old) (I.taken input.new) }
+    // `select` reads the whole body before it writes.
+    ensures unwritten { result ≡ 3 → IfSome (selected words.now) (λ name. Keeps (O.written out.old) (O.written out.new)) }
     ensures four { result ≡ 4 → Rose (O.faults out.old) (O.faults out.new) }
     ensures five { result ≡ 5 → Rose (S.faults store.old) (S.faults store.new) }
     ensures seven { result ≡ 7 → Keeps (O.written out.old) (O.written out.new) }
@@ -96,8 +98,8 @@ pub fn run<S: Store, I: Source, O: Sink, E: Sink>(
         (line_of_status (ordered words.now) result) }
     // No byte of the object is read twice.
     ensures taken { IfSome (selected words.now) (λ name. TookOnce (S.current store.new) (S.taken store.old) (S.taken store.new)) }
-    // A body that is too long is read to one byte past the limit.
-    ensures body { IfSome (selected words.now) (λ name. TookBody (I.taken input.old) (I.taken input.new)) }
+    // The input is read no further than one byte past the longest body, or past the most that is read of replies.
+    ensures input_taken { I.taken input.new ≤ I.taken input.old + most_read (ordered words.now) }
     ensures held { S.held store.new ≡ S.held store.old }
     // `select` alone uses the store.
     ensures unused { IfNone (selected words.now) (StaysAsItWas (S.current store.old) (S.current store.new)
@@ -132,6 +134,7 @@ fn run_select<S: Store, I: Source, O: Sink, E: Sink>(
         × Misses (S.held store.old) name.now (S.current store.new) (S.absent store.old) (S.absent store.new) }
     ensures missing { IsLacking (S.held store.old) name.now → (result ≡ 2) ⊎ (result ≡ 5) }
     ensures three { result ≡ 3 → Rose (I.faults input.old) (I.faults input.new) }
+    ensures unwritten { result ≡ 3 → Keeps (O.written out.old) (O.written out.new) }
     ensures four { result ≡ 4 → Rose (O.faults out.old) (O.faults out.new) }
     ensures five { result ≡ 5 → Rose (S.faults store.old) (S.faults store.new) }
     ensures seven { result ≡ 7 → Keeps (O.written out.old) (O.written out.new) }
@@ -143,7 +146,7 @@ fn run_select<S: Store, I: Source, O: Sink, E: Sink>(
     ensures line { WritesUnlessFaulty (E.faults err.old) (E.faults err.new) (E.written err.old) (E.written err.new)
         (line_of_status (Some (selects name.now)) result) }
     ensures taken { TookOnce (S.current store.new) (S.taken store.old) (S.taken store.new) }
-    ensures body { TookBody (I.taken input.old) (I.taken input.new) }
+    ensures input_taken { I.taken input.new ≤ I.taken input.old + most_of_body }
     ensures held { S.held store.new ≡ S.held store.old }
 {
     match select(alloc, name, store, input, out) {
@@ -188,6 +191,7 @@ fn run_list<I: Source, O: Sink, E: Sink>(
         (λ bytes. IsAnswered listing bytes result (O.written out.old) (O.written out.new)) }
     ensures line { result ≢ 8 → WritesUnlessFaulty (E.faults err.old) (E.faults err.new) (E.written err.old) (E.written err.new)
         (line_of_status (Some (lists listing)) result) }
+    ensures input_taken { I.taken input.new ≤ I.taken input.old + most_of_replies }
 {
     match list(alloc, listing, input, out) {
         Ok(erred) => u8::from(erred),

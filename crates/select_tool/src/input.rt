@@ -2,7 +2,7 @@
 ghost use Rattle.std.specs.Prelude.{◌≡◌, ◌+◌, ◌<◌, ◌≤◌, length, take, ⊤, IfOk, IfErr};
 ghost use Rattle.std.specs.Io.KnownBytes.{Consumes, IsAtEnd};
 ghost use Rattle.select_ports.specs.Causes.{HasCause, Rose};
-ghost use Rattle.select_tool.specs.Input.{IsReadFrom, TookBody};
+ghost use Rattle.select_tool.specs.Input.{IsReadFrom, most_of_body};
 ghost use Rattle.select_tool.specs.Replies.{CauseOf};
 
 use crate::trouble::Trouble;
@@ -15,7 +15,7 @@ use std::alloc::Global;
 pub(crate) fn read_body<I: Source>(alloc: Global, input: &mut I) -> Result<Vec<u8>, Trouble>
     ensures body { IfOk result (λ body. IsReadFrom (I.left input.old) body.items) }
     ensures cause { IfErr result (λ trouble. CauseOf trouble ⊥ (Rose (I.faults input.old) (I.faults input.new)) ⊥ ⊥ ⊤) }
-    ensures taken { TookBody (I.taken input.old) (I.taken input.new) }
+    ensures taken { I.taken input.new ≤ I.taken input.old + most_of_body }
 {
     let Ok(mut body) = room(alloc, LONGEST_BODY + 1) else {
         return Err(Trouble::OutOfMemory);

@@ -1,10 +1,10 @@
 //! The commands `show` and `records`: one pass over the replies on the input, in pieces, each event answered as its frame ends.
-ghost use Rattle.std.specs.Prelude.{◌≡◌, ◌+◌, ◌^◌, ◌<◌, ◌≤◌, ◌⊎◌, false, take, length, IfOk, IfErr, IfSome};
+ghost use Rattle.std.specs.Prelude.{◌≡◌, ◌+◌, ◌-◌, ◌^◌, ◌<◌, ◌≤◌, ◌⊎◌, false, take, length, IfOk, IfErr, IfSome};
 ghost use Rattle.std.specs.Io.KnownBytes.{Consumes, Keeps, IsAtEnd};
 ghost use Rattle.select_ports.specs.Causes.{Rose, RoseBy};
 ghost use Rattle.event_frame.specs.Reader.{fresh_reader};
 ghost use Rattle.select_tool.specs.Endings.{replied, bad};
-ghost use Rattle.select_tool.specs.Input.{IsUnread};
+ghost use Rattle.select_tool.specs.Input.{IsUnread, most_of_replies};
 ghost use Rattle.select_tool.specs.Listings.{IsListed, IsListedInPart, ListingCause, WentOver};
 ghost use Rattle.select_tool.specs.Listening.{IsReady, Steps, Feeds, GoesOver, Finishes};
 
@@ -40,6 +40,7 @@ pub(crate) fn list<I: Source, O: Sink>(
         ⊎ WentOver listing (I.left input.old) (O.written out.old) (O.written out.new) (I.taken input.old) (I.taken input.new))
         (Rose (O.faults out.old) (O.faults out.new))
         (Keeps (O.written out.old) (O.written out.new) × IsUnread (I.taken input.old) (I.taken input.new) (I.left input.old) (I.left input.new))) }
+    ensures input_taken { I.taken input.new ≤ I.taken input.old + most_of_replies }
 {
     let Ok(mut lister) = Lister::make(alloc, listing) else {
         return Err(Trouble::OutOfMemory);
@@ -75,6 +76,7 @@ fn list_all<I: Source, O: Sink>(
         ⊎ WentOver lister.old.listing (I.left input.old) (O.written out.old) (O.written out.new) (I.taken input.old) (I.taken input.new))
         (Rose (O.faults out.old) (O.faults out.new))
         ⊥) }
+    ensures input_taken { I.taken input.new ≤ I.taken input.old + most_of_replies }
 {
     let mut taken: u64 = 0;
     'pieces: loop {
@@ -101,6 +103,7 @@ fn read_piece<I: Source>(input: &mut I, buffer: &mut [u8], taken: u64) -> Result
     ensures bytes { IfOk result (λ count. Consumes (I.left input.old) (I.left input.new) (take count buffer.new)) }
     ensures end { IfOk result (λ count. count ≡ 0 → IsAtEnd (I.left input.new)) }
     ensures taken { IfOk result (λ count. RoseBy count (I.taken input.old) (I.taken input.new)) }
+    ensures input_taken { I.taken input.new ≤ I.taken input.old + (most_of_replies - taken) }
     ensures faults { I.faults input.old ≤ I.faults input.new }
     ensures cause { IfErr result (λ trouble. (trouble ≡ Trouble.InputFault) × (Rose (I.faults input.old) (I.faults input.new)
         ⊎ GoesOver taken (I.left input.old) (I.taken input.old) (I.taken input.new))) }
@@ -122,6 +125,7 @@ fn read_end<I: Source>(input: &mut I, buffer: &mut [u8]) -> Result<usize, Troubl
     ensures bytes { IfOk result (λ count. Consumes (I.left input.old) (I.left input.new) (take count buffer.new)) }
     ensures end { IfOk result (λ count. IsAtEnd (I.left input.new)) }
     ensures taken { IfOk result (λ count. RoseBy count (I.taken input.old) (I.taken input.new)) }
+    ensures input_taken { I.taken input.new ≤ I.taken input.old + 1 }
     ensures faults { I.faults input.old ≤ I.faults input.new }
     ensures cause { IfErr result (λ trouble. (trouble ≡ Trouble.InputFault) × (Rose (I.faults input.old) (I.faults input.new)
         ⊎ GoesOver (2 ^ 40) (I.left input.old) (I.taken input.old) (I.taken input.new))) }

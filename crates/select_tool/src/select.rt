@@ -7,7 +7,7 @@ ghost use Rattle.line_window.specs.Sliding.{Tells};
 ghost use Rattle.select_engine.specs.Prepared.{Prepares};
 ghost use Rattle.select_engine.specs.Events.{events, error_event};
 ghost use Rattle.select_engine.specs.Jobs.{WritesReply};
-ghost use Rattle.select_tool.specs.Input.{IsUnread, TookBody};
+ghost use Rattle.select_tool.specs.Input.{IsUnread, most_of_body};
 ghost use Rattle.select_tool.specs.Replies.{IfTold, Replied, IsCutShort, IsLacking, IsMissingOrFault, IsNotHeldBack, Misses, CauseOf, TookOnce, reply_outcome, longest_record};
 
 use crate::input::read_body;
@@ -43,7 +43,7 @@ pub(crate) fn select<S: Store, I: Source, O: Sink>(
         (Keeps (O.written out.old) (O.written out.new))) }
     ensures missing { IsLacking (S.held store.old) name.now → IsErrAnd result IsMissingOrFault }
     ensures taken { TookOnce (S.current store.new) (S.taken store.old) (S.taken store.new) }
-    ensures body { TookBody (I.taken input.old) (I.taken input.new) }
+    ensures input_taken { I.taken input.new ≤ I.taken input.old + most_of_body }
     ensures held { S.held store.new ≡ S.held store.old }
 {
     let size = open(store, name)?;
@@ -75,7 +75,7 @@ fn open<S: Store>(store: &mut S, name: &str) -> Result<u64, Trouble>
 fn read_asked<I: Source>(alloc: Global, input: &mut I) -> Result<Asked, Trouble>
     ensures asked { IfOk result (λ asked. IfSome (I.left input.old) (λ body. Prepares body asked)) }
     ensures cause { IfErr result (λ trouble. CauseOf trouble ⊥ (Rose (I.faults input.old) (I.faults input.new)) ⊥ ⊥ ⊤) }
-    ensures taken { TookBody (I.taken input.old) (I.taken input.new) }
+    ensures input_taken { I.taken input.new ≤ I.taken input.old + most_of_body }
 {
     let body = read_body(alloc, input)?;
     match prepare(alloc, &body) {

@@ -14,6 +14,7 @@ pieces-init g c = record {
   count = ap (λ (f : ReaderState). f.taken) c.requires.frames;
   came = fresh_came c.args.frames.now c.args.lister.now _ _ c.requires.frames;
   rose = omega arith;
+  input_taken = omega arith;
   input_faults = omega arith;
   out_faults = omega arith;
 }
@@ -52,6 +53,7 @@ pieces-preserved g c =
       came = came_piece c.pieces.taken c.in-Ok.count c.pieces.frames c.feed.new.frames (take c.in-Ok.count c.read_piece.new.buffer) c.args.lister.now c.pieces.lister
           c.feed.new.lister _ _ _ _ _ _ i.came r.bytes size f;
       rose = omega (arith, i.rose, r.taken);
+      input_taken = omega (arith, i.input_taken, r.taken);
       input_faults = omega (arith, i.input_faults, c.read_piece.ensures.faults);
       out_faults = omega (arith, i.out_faults, c.feed.ensures.faults);
     }

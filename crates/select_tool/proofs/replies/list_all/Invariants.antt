@@ -1,4 +1,4 @@
-use Rattle.std.proofs.Common.{◌≡◌, ◌-◌, ◌^◌, ◌≤◌, length}
+use Rattle.std.proofs.Common.{◌≡◌, ◌+◌, ◌-◌, ◌^◌, ◌≤◌, length}
 use Rattle.select_tool.specs.Listening.{IsReady}
 use Rattle.select_tool.proofs.ListingLaws.{Came}
 use Rattle.select_tool.proofs.EndingLaws.{RoseAtLeast}
@@ -13,6 +13,7 @@ invariant-pieces g l = record {
   came : Came l.taken l.frames.kept l.initial.lister l.lister (g.I.Source.left l.initial.input) (g.I.Source.left l.input)
       (g.O.Sink.written l.initial.out) (g.O.Sink.written l.out);
   rose : RoseAtLeast l.taken (g.I.Source.taken l.initial.input) (g.I.Source.taken l.input);
+  input_taken : g.I.Source.taken l.input ≤ g.I.Source.taken l.initial.input + l.taken;
   input_faults : g.I.Source.faults l.initial.input ≤ g.I.Source.faults l.input;
   out_faults : g.O.Sink.faults l.initial.out ≤ g.O.Sink.faults l.out;
 }
