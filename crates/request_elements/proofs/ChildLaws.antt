@@ -10,9 +10,8 @@ use Rattle.request_elements.specs.declared.element.Element.TheVariants.{Request,
 use Rattle.request_elements.specs.Elements.{number_of, same_element, is_child, name_of, child_named}
 use Rattle.request_elements.specs.Pieces.{Piece, declaration, start_tag, end_tag, empty_tag, char_data, unfit, Symbol}
 use Rattle.request_elements.specs.Grammar.{is_blank_piece, starts_element, is_whole_element}
-use Rattle.request_elements.specs.Readers.{child_begun}
-use Rattle.request_elements.specs.Sights.{first_name, beginning_name}
-use Rattle.request_elements.specs.Taken.{free_of, first_child, where_free}
+use Rattle.request_elements.specs.Readers.{child_begun, free_of, first_child, where_free}
+use Rattle.request_elements.specs.Cursor.{first_name, beginning_name}
 use Rattle.request_elements.proofs.TableLaws.{number_below, same_is, child_told, named_told, bytes_are, bytes_test}
 
 -- as the cursor tells it
@@ -27,18 +26,6 @@ piece_child parent unfit name e = cc
 pub child_in_sight : (parent : Element) (ss : List Symbol) (name : List ℕ) → first_name ss ≡ Some name → first_child parent ss ≡ child_named parent name
 child_in_sight parent [] name e = cc
 child_in_sight parent (s ∷ ss) name e = piece_child parent s.piece name e
-
-no_piece_child : (parent : Element) (p : Piece) → beginning_name p ≡ None → child_begun parent p ≡ None
-no_piece_child parent declaration e = refl
-no_piece_child parent (start_tag n) e = cc
-no_piece_child parent (end_tag n) e = refl
-no_piece_child parent (empty_tag n) e = cc
-no_piece_child parent (char_data raw) e = refl
-no_piece_child parent unfit e = refl
-
-pub no_child_in_sight : (parent : Element) (ss : List Symbol) → first_name ss ≡ None → first_child parent ss ≡ None
-no_child_in_sight parent [] e = refl
-no_child_in_sight parent (s ∷ ss) e = no_piece_child parent s.piece e
 
 pub free_is : (taken : List Bool) (c : Element) (n : ℕ) → n ≡ number_of c → free_of taken c ≡ not (slice_index_or taken n false)
 unfolding free_of

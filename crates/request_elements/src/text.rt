@@ -1,8 +1,7 @@
 //! A text between two tags, and the characters that it stands for.
 ghost use Rattle.std.specs.Prelude.{◌≡◌, ◌<◌, ◌≤◌, ◌∷◌, true, false, length, Some, None, IfOk, IfSome, MatchOption};
 ghost use Rattle.std.specs.Str.{is_utf8};
-ghost use Rattle.request_elements.specs.Sights.{Splits};
-ghost use Rattle.request_elements.specs.TextValue.{by_name, by_number, if_character, number_after, numbered, referred, then_resolved, resolved, text_value};
+ghost use Rattle.request_elements.specs.TextValue.{Splits, by_name, by_number, if_character, number_after, numbered, referred, then_resolved, resolved, text_value};
 
 use crate::pieces::has;
 use crate::text_buf::TextBuf;

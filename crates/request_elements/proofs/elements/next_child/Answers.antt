@@ -1,6 +1,6 @@
 -- The child in sight is taken, or it is free.
 use Rattle.std.proofs.Common.{◌∙◌, sym, ap, not}
-use Rattle.request_elements.specs.Taken.{free_of, first_child}
+use Rattle.request_elements.specs.Readers.{free_of, first_child}
 use Rattle.request_elements.proofs.ChildLaws.{child_in_sight, free_is, where_free_not, where_free_so}
 use Rattle.request_elements.proofs.elements.next_child.Goals as goal
 
