@@ -250,12 +250,8 @@ fn children(
 fn next_child(pieces: &PieceCursor<'_>, parent: Element, taken: &[bool; COUNT]) -> Option<Element>
     ensures { result ≡ where_free (free_of taken.now) (first_child parent pieces.now) }
 {
-    let Some(name) = pieces.name() else {
-        return None;
-    };
-    let Some(child) = parent.child_named(name) else {
-        return None;
-    };
+    let name = pieces.name()?;
+    let child = parent.child_named(name)?;
     if taken[child.number()] {
         None
     } else {

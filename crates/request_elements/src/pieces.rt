@@ -123,7 +123,7 @@ impl<'b> PieceCursor<'b> {
         self.sight.is_none()
     }
 
-    /// The place of the piece in sight, or the body's length.
+    /// The place of the piece in sight, or `size` where none is left.
     pub(crate) fn place(&self, size: usize) -> usize
         ensures { result ≡ first_place size self.now }
     {

@@ -76,9 +76,7 @@ fn reference(text: &str) -> Option<(char, &str)>
 fn referred(name: &[u8]) -> Option<char>
     ensures { result ≡ referred name.now }
 {
-    let Some((first, rest)) = name.split_first() else {
-        return None;
-    };
+    let (first, rest) = name.split_first()?;
     if *first == b'#' {
         by_number(rest)
     } else {
@@ -111,9 +109,7 @@ fn by_name(name: &[u8]) -> Option<char>
 fn by_number(number: &[u8]) -> Option<char>
     ensures { result ≡ by_number number.now }
 {
-    let Some((first, digits)) = number.split_first() else {
-        return None;
-    };
+    let (first, digits) = number.split_first()?;
     if *first == b'x' {
         numbered(16, digits)
     } else {
@@ -133,10 +129,7 @@ fn numbered(base: u32, digits: &[u8]) -> Option<char>
     if digits.len() > 8 {
         return None;
     }
-    match number_of(base, digits) {
-        Some(number) => character_of(number),
-        None => None,
-    }
+    character_of(number_of(base, digits)?)
 }
 
 /// The number that at most eight digits spell.

@@ -6,12 +6,12 @@ use Rattle.request_elements.proofs.elements.next_child.Goals as goal
 
 pub returns-then-taken-number : goal.returns-then-taken-number
 returns-then-taken-number c =
-    where_free_not (free_of c.args.taken.now) (first_child c.args.parent c.args.pieces.now) c.in-Some-child_named.child
-    (child_in_sight c.args.parent c.args.pieces.now c.in-Some.name.now c.in-Some.ensures ∙ (sym c.child_named.ensures ∙ c.in-Some-child_named.is))
-    (free_is c.args.taken.now c.in-Some-child_named.child c.number.result c.number.ensures.value ∙ ap not c.if-taken-number.true)
+    where_free_not (free_of c.args.taken.now) (first_child c.args.parent c.args.pieces.now) c.in_ok-child.child
+    (child_in_sight c.args.parent c.args.pieces.now c.in_ok-name.name.now c.in_ok-name.ensures ∙ (sym c.child_named.ensures ∙ c.in_ok-child.was))
+    (free_is c.args.taken.now c.in_ok-child.child c.number.result c.number.ensures.value ∙ ap not c.if-taken-number.true)
 
 pub returns-else-taken-number : goal.returns-else-taken-number
 returns-else-taken-number c =
-    where_free_so (free_of c.args.taken.now) (first_child c.args.parent c.args.pieces.now) c.in-Some-child_named.child
-    (child_in_sight c.args.parent c.args.pieces.now c.in-Some.name.now c.in-Some.ensures ∙ (sym c.child_named.ensures ∙ c.in-Some-child_named.is))
-    (free_is c.args.taken.now c.in-Some-child_named.child c.number.result c.number.ensures.value ∙ ap not c.if-taken-number.false)
+    where_free_so (free_of c.args.taken.now) (first_child c.args.parent c.args.pieces.now) c.in_ok-child.child
+    (child_in_sight c.args.parent c.args.pieces.now c.in_ok-name.name.now c.in_ok-name.ensures ∙ (sym c.child_named.ensures ∙ c.in_ok-child.was))
+    (free_is c.args.taken.now c.in_ok-child.child c.number.result c.number.ensures.value ∙ ap not c.if-taken-number.false)
