@@ -1,6 +1,7 @@
 -- The element that a piece begins in another, and whether it is free.
 use Rattle.std.proofs.Common.{◌≡◌, ℕ, ◌&&◌, ◌||◌, not, Bool, true, false, List, [], ◌∷◌, Option, Some, None, is_some, slice_index_or, length, refl, sym, ap, ◌∙◌, arith, eq-eqb, ◌≢◌}
 use mathlib.Core.Path.{fun_ext}
+use Rattle.std.proofs.Math.Bool.{and-false, and-true, or-false}
 use Rattle.std.proofs.Math.ListN.{set}
 use Rattle.std.proofs.lemmas.List.{get_or-set_other}
 use Rattle.std.proofs.lemmas.Grind.{get_or-set_at}
@@ -39,30 +40,19 @@ where_free_so free o c e f = rw (e, f) refl
 
 -- ---- which tag begins which element
 
-pub or_false : (b : Bool) → (b || false) ≡ true → b ≡ true
-or_false true e = e
-or_false false e = e
-
-pub and_false : (b : Bool) → (b && false) ≡ false
-and_false true = refl
-and_false false = refl
-
 pub begins_tag : (e i : Element) (p : Piece) → is_child e i ≡ true → (is_whole_element i p || starts_element i p) ≡ true → child_begun e p ≡ Some i
 begins_tag e i declaration k h = cc
 begins_tag e i (start_tag name) k h = let q = bytes_are name (name_of i) h in rw q (child_told e i k)
 begins_tag e i (end_tag name) k h = cc
-begins_tag e i (empty_tag name) k h = let q = bytes_are name (name_of i) (or_false _ h) in rw q (child_told e i k)
+begins_tag e i (empty_tag name) k h = let q = bytes_are name (name_of i) (sym (or-false _) ∙ h) in rw q (child_told e i k)
 begins_tag e i (char_data raw) k h = cc
 begins_tag e i unfit k h = cc
-
-or_so : (b : Bool) → b ≡ true → (b || false) ≡ true
-or_so b e = rw e refl
 
 pub tells_tag : (e i : Element) (p : Piece) → child_begun e p ≡ Some i → (is_child e i ≡ true) × ((is_whole_element i p || starts_element i p) ≡ true)
 tells_tag e i declaration h = cc
 tells_tag e i (start_tag name) h = let w = named_told e name i h in (w.0, bytes_test name (name_of i) w.1)
 tells_tag e i (end_tag name) h = cc
-tells_tag e i (empty_tag name) h = let w = named_told e name i h in (w.0, or_so _ (bytes_test name (name_of i) w.1))
+tells_tag e i (empty_tag name) h = let w = named_told e name i h in (w.0, or-false _ ∙ bytes_test name (name_of i) w.1)
 tells_tag e i (char_data raw) h = cc
 tells_tag e i unfit h = cc
 
@@ -71,7 +61,7 @@ blank_or_child e declaration = refl
 blank_or_child e (start_tag name) = refl
 blank_or_child e (end_tag name) = refl
 blank_or_child e (empty_tag name) = refl
-blank_or_child e (char_data raw) = and_false _
+blank_or_child e (char_data raw) = and-false _
 blank_or_child e unfit = refl
 
 -- ---- the marks of the elements that are taken
@@ -84,10 +74,6 @@ all_free = elim [ Request ↦ refl | Expression ↦ refl | ExpressionType ↦ re
 pub all_are_free : free_of (false ∷ false ∷ false ∷ false ∷ false ∷ false ∷ false ∷ false ∷ false ∷ false ∷ false ∷ false ∷ false ∷ false ∷ false ∷ false ∷ false ∷ false ∷ false ∷ false ∷ false ∷ false ∷ false ∷ false ∷ false ∷ false ∷ false ∷ false ∷ false ∷ false ∷ []) ≡ (λ c. true)
 all_are_free = fun_ext all_free
 
-and_true : (b : Bool) → (b && true) ≡ b
-and_true true = refl
-and_true false = refl
-
 same_not : (c d : Element) → same_element c d ≡ false → number_of c ≡ number_of d → ⊥
 same_not c d e n = let t : same_element c d ≡ true = eq-eqb (number_of c) (number_of d) n in cc
 
@@ -98,10 +84,10 @@ mark_at taken c d n true e q l =
     let p : c ≡ d = same_is c d e in
     let m : number_of d ≡ n = ap number_of (sym p) ∙ sym q in
     let b = number_below c in
-    rw (get_or-set_at taken n (number_of d) true false m (omega arith)) (and_false (not (slice_index_or taken (number_of d) false)))
+    rw (get_or-set_at taken n (number_of d) true false m (omega arith)) (and-false (not (slice_index_or taken (number_of d) false)))
 mark_at taken c d n false e q l =
     let m : number_of d ≢ n = λ same. absurd (same_not c d e (sym q ∙ sym same)) in
-    rw (get_or-set_other taken n (number_of d) true false m) (and_true (not (slice_index_or taken (number_of d) false)))
+    rw (get_or-set_other taken n (number_of d) true false m) (and-true (not (slice_index_or taken (number_of d) false)))
 
 pub free_marked : (taken : List Bool) (c : Element) (n : ℕ) → n ≡ number_of c → length taken ≡ 30 → without same_element c (free_of taken) ≡ free_of (set taken n true)
 free_marked taken c n q l = fun_ext (λ d. mark_at taken c d n (same_element c d) refl q l)
