@@ -1,6 +1,7 @@
 -- Where a byte stands first among others, and blanks at an end.
 use Rattle.std.proofs.Common.{◌≡◌, ◌↔◌, ℕ, zero, suc, ◌<◌, ◌≤◌, ◌==◌, ◌||◌, ◌&&◌, not, is_some, IsTrue, IsUtf8, Bool, true, false, List, [], ◌∷◌, ◌++◌, length, take, slice_index, refl, sym, ap, ◌∙◌, arith, eq-eqb, if◌then◌else◌, Option, Some, None}
 use Rattle.std.specs.Str.{is_utf8}
+use Rattle.std.proofs.Math.Bool.{or-true}
 use Rattle.std.proofs.lemmas.Str.{IsUtf8-from_is_utf8, is_utf8-from_IsUtf8}
 use Rattle.memchr.specs.Find.{IsFirstByte, is_byte}
 use Rattle.request_elements.specs.Pieces.{has, up_to, is_blank, without_last_blanks, unless_blank, ends_with, but_last, is_declared}
@@ -17,13 +18,9 @@ up_to_front x (b ∷ pre) rest e =
     let P : Bool → Type 0 = λ t. (t || has x pre) ≡ false → (if t then [] else b ∷ up_to x (pre ++ x ∷ rest)) ≡ b ∷ pre in
     (elim (b == x) as P [ true ↦ λ e. cc | false ↦ λ e. ap (λ l. b ∷ l) (up_to_front x pre rest e) ]) e
 
-or_true : (t : Bool) → (t || true) ≡ true
-or_true true = refl
-or_true false = refl
-
 pub has_front : (x : ℕ) (pre rest : List ℕ) → has x (pre ++ x ∷ rest) ≡ true
 has_front x [] rest = let q : (x == x) ≡ true = eq-eqb x x refl in rw q refl
-has_front x (b ∷ pre) rest = rw (has_front x pre rest) (or_true (b == x))
+has_front x (b ∷ pre) rest = rw (has_front x pre rest) (or-true (b == x))
 
 pub take_up_to : (x : ℕ) (bs : List ℕ) → take (length (up_to x bs)) bs ≡ up_to x bs
 take_up_to x [] = refl
@@ -110,7 +107,7 @@ but_last_of (x ∷ bs) b = last_more x bs b ∙ ap (λ l. x ∷ l) (but_last_of 
 some_has : (x : ℕ) (bs : List ℕ) (k : ℕ) → k < length bs → (slice_index bs k == x) ≡ true → has x bs ≡ true
 some_has x [] k l e = absurd (omega arith)
 some_has x (b ∷ bs) zero l e = rw e refl
-some_has x (b ∷ bs) (suc k) l e = rw (some_has x bs k (omega arith) e) (or_true (b == x))
+some_has x (b ∷ bs) (suc k) l e = rw (some_has x bs k (omega arith) e) (or-true (b == x))
 
 pub search_has : (x : ℕ) (bs : List ℕ) (o : Option ℕ) → IsFirstByte (is_byte x) bs o → is_some o ≡ has x bs
 search_has x bs None h = sym (nowhere x bs (λ j l f. h j (omega arith) l f))

@@ -1,7 +1,6 @@
 -- Cutting goes piece by piece.
-use Rattle.std.proofs.Common.{◌≡◌, ℕ, zero, suc, ◌+◌, ◌==◌, ◌||◌, Bool, true, false, List, [], ◌∷◌, ◌++◌, length, drop, refl, ap, ◌∙◌, arith, eqb-true}
+use Rattle.std.proofs.Common.{◌≡◌, ℕ, zero, suc, ◌+◌, ◌==◌, Bool, true, false, List, [], ◌∷◌, ◌++◌, length, drop, refl, ap, ◌∙◌, arith, eqb-true}
 use Rattle.request_elements.specs.Pieces.{char_data, unfit, has, up_to, tag, piece_from, further, cut_behind, cut}
-use Rattle.request_elements.proofs.ByteLaws.{up_to_front, has_front}
 
 cut_skips : (k at : ℕ) (bs : List ℕ) → cut_behind k at bs ≡ cut_behind 0 (at + k) (drop k bs)
 cut_skips zero at bs = let e : at + 0 ≡ at = omega arith in rw e refl
@@ -40,28 +39,6 @@ cut_text_at at b bs e =
 pub drop_behind : (pre : List ℕ) (x : ℕ) (rest : List ℕ) → drop (length pre + 1) (pre ++ x ∷ rest) ≡ rest
 drop_behind [] x rest = refl
 drop_behind (p ∷ pre) x rest = let e : suc (length pre) + 1 ≡ suc (length pre + 1) = omega arith in rw e (drop_behind pre x rest)
-
-drop_front : (pre rest : List ℕ) → drop (length pre) (pre ++ rest) ≡ rest
-drop_front [] rest = refl
-drop_front (p ∷ pre) rest = drop_front pre rest
-
--- a printed tag and what follows it
-pub cut_tag : (at : ℕ) (inside rest : List ℕ) → has 62 inside ≡ false
-    → cut at (60 ∷ (inside ++ 62 ∷ rest)) ≡ record { at = at; piece = tag inside } ∷ cut (at + length inside + 2) rest
-cut_tag at inside rest e =
-    cut_tag_at at (inside ++ 62 ∷ rest) (has_front 62 inside rest)
-    ∙ rw (up_to_front 62 inside rest e, drop_behind inside 62 rest) refl
-
-or_first : (s t : Bool) → (s || t) ≡ false → s ≡ false
-or_first true t e = e
-or_first false t e = refl
-
--- a text that holds no `<`, and the tag that follows it
-pub cut_text : (at b : ℕ) (bs rest : List ℕ) → has 60 (b ∷ bs) ≡ false
-    → cut at ((b ∷ bs) ++ 60 ∷ rest) ≡ record { at = at; piece = char_data (b ∷ bs) } ∷ cut (at + length (b ∷ bs)) (60 ∷ rest)
-cut_text at b bs rest e =
-    cut_text_at at b (bs ++ 60 ∷ rest) (or_first (b == 60) (has 60 bs) e)
-    ∙ rw (up_to_front 60 (b ∷ bs) rest e, drop_front (b ∷ bs) (60 ∷ rest)) refl
 
 -- ---- as the cursor asks
 

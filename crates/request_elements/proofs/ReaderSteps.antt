@@ -12,18 +12,9 @@ use Rattle.request_elements.specs.declared.elements.Failure.TheVariants.{Refused
 use Rattle.request_elements.specs.Elements.{is_leaf, is_child, same_element}
 use Rattle.request_elements.specs.Pieces.{Symbol, first_place}
 use Rattle.request_elements.specs.Grammar.{is_declaration_piece, starts_element, ends_element, is_whole_element, blanks, found_alone, joined, element_within}
-use Rattle.request_elements.specs.Readers.{behind, behind_blanks, with_blanks, read_whole, read_characters, read_leaf, read_container, child_begun, read_child, read_free, read_children, read_element, read_body, onto, Gives, Closes, FailsToClose}
-use Rattle.request_elements.specs.Taken.{first_child, where_free}
+use Rattle.request_elements.specs.Readers.{behind, behind_blanks, with_blanks, read_whole, read_characters, read_leaf, read_container, child_begun, first_child, where_free, read_child, read_free, read_children, read_element, read_body, onto, Gives, Closes, FailsToClose}
 use Rattle.request_elements.proofs.ChildLaws.{tells_tag}
 use Rattle.request_elements.proofs.Readings.{tag_sight, each_sight, is_tail, named_children, reads-child, reads-element}
-
-pub behind_there : (test : Symbol → Bool) (ss : List Symbol) → starts test ss ≡ true → behind test ss ≡ drop 1 ss
-behind_there test [] e = refl
-behind_there test (s ∷ ss) e = rw e refl
-
-pub behind_none : (test : Symbol → Bool) (ss : List Symbol) → starts test ss ≡ false → behind test ss ≡ ss
-behind_none test [] e = refl
-behind_none test (s ∷ ss) e = rw e refl
 
 -- ---- outcomes behind elements that were found before
 

@@ -1,5 +1,6 @@
 -- The readers of the pieces read the grammar's rules.
-use Rattle.std.proofs.Common.{◌≡◌, ℕ, zero, suc, ◌&&◌, ◌||◌, Bool, true, false, List, [], ◌∷◌, ◌++◌, Some, None, is_some, unwrap_or, refl, sym, subst, if◌then◌else◌}
+use Rattle.std.proofs.Common.{◌≡◌, ℕ, zero, suc, ◌&&◌, ◌||◌, Bool, true, false, List, [], ◌∷◌, ◌++◌, Some, None, is_some, unwrap_or, refl, sym, subst, ◌∙◌, if◌then◌else◌}
+use Rattle.std.proofs.Math.Bool.{and-false, or-false}
 use Rattle.grammar_rules.specs.Rules.{Rule, Verdict, takes, refuses, terminal, token, made, optional, followed_by, preceded_by, ◌&◌, one_of_two, allowed, members}
 use Rattle.grammar_rules.specs.Readers.{Outcome, found, failed, and_then, read_made, read_symbol, read_terminal, is_seen, chosen, closed_by, read_before, read_pair, read_optional, is_free}
 use Rattle.grammar_rules.proofs.Lists.{or_left}
@@ -17,7 +18,7 @@ use Rattle.request_elements.specs.Elements.{is_leaf, is_child, same_element}
 use Rattle.request_elements.specs.Pieces.{Piece, declaration, start_tag, end_tag, empty_tag, char_data, unfit, Symbol}
 use Rattle.request_elements.specs.Grammar.{is_declaration_piece, is_blank_piece, starts_element, ends_element, is_whole_element, characters_of, taken, blanks, start_of, end_of, whole_of, characters, found_alone, leaf, container, joined, children, element_within, request_body}
 use Rattle.request_elements.specs.Readers.{behind, behind_blanks, read_token, with_blanks, read_whole, read_characters, read_leaf, read_container, child_begun, read_allowed, read_child, read_free, read_children, read_element, read_body}
-use Rattle.request_elements.proofs.ChildLaws.{or_false, and_false, begins_tag, tells_tag, blank_or_child}
+use Rattle.request_elements.proofs.ChildLaws.{begins_tag, tells_tag, blank_or_child}
 
 -- the lookahead of a symbol that may be there
 abbrev pub maybe_sight : (Symbol → Bool) → Sight Symbol
@@ -26,7 +27,7 @@ maybe_sight test = record { first = test; null = true; more = test }
 reads-maybe : (test : Symbol → Bool) → Reads (optional (token {K = ⊥} test)) (maybe_sight test) (read_optional test (read_token test))
 reads-maybe test =
     reads_seen (optional (token test)) (optional_sight (token_sight test)) (maybe_sight test) (read_optional test (read_token test))
-    (record { first = λ x e. or_false (test x) e; null = λ e. refl; more = λ x e. or_false (test x) e })
+    (record { first = λ x e. sym (or-false (test x)) ∙ e; null = λ e. refl; more = λ x e. sym (or-false (test x)) ∙ e })
     (λ x e. or_left (test x) false e)
     (λ e. refl)
     (reads-optional (token test) (token_sight test) (read_token test) (reads-token test) refl)
@@ -87,7 +88,7 @@ module _ {A : Type 0} (e : Element) (G : Rule Symbol ⊥ A) (read : List Symbol 
   pub reads-with_blanks : Reads G (tag_sight e) read → Reads (followed_by G blanks) (child_sight e) (with_blanks read)
   reads-with_blanks g =
       reads_seen (followed_by G blanks) (then_sight (tag_sight e) (maybe_sight (λ s. is_blank_piece s.piece))) (child_sight e) (with_blanks read)
-      (record { first = λ x h. h; null = λ h. h; more = λ x h. or_false _ h })
+      (record { first = λ x h. h; null = λ h. h; more = λ x h. sym (or-false _) ∙ h })
       (λ x h. h) (λ h. h)
       (reads_then (followed_by G blanks) (tag_sight e) (maybe_sight (λ s. is_blank_piece s.piece)) (with_blanks read) refl
       (reads_as (followed_by G blanks) (sequence_sight (tag_sight e) (maybe_sight (λ s. is_blank_piece s.piece)))
@@ -99,7 +100,7 @@ whole_or_start : (e : Element) (p : Piece) → (is_whole_element e p && starts_e
 whole_or_start e declaration = refl
 whole_or_start e (start_tag name) = refl
 whole_or_start e (end_tag name) = refl
-whole_or_start e (empty_tag name) = and_false _
+whole_or_start e (empty_tag name) = and-false _
 whole_or_start e (char_data raw) = refl
 whole_or_start e unfit = refl
 
@@ -108,7 +109,7 @@ text_or_end e declaration = refl
 text_or_end e (start_tag name) = refl
 text_or_end e (end_tag name) = refl
 text_or_end e (empty_tag name) = refl
-text_or_end e (char_data raw) = and_false _
+text_or_end e (char_data raw) = and-false _
 text_or_end e unfit = refl
 
 abbrev text_look : Symbol → Verdict ⊥ (List ℕ)
@@ -159,10 +160,10 @@ children_sight e = members_sight (λ s. child_begun e s.piece) is_tail (λ c. tr
 
 child_or_end : (e : Element) (p : Piece) → ((is_some (child_begun e p) || is_blank_piece p) && ends_element e p) ≡ false
 child_or_end e declaration = refl
-child_or_end e (start_tag name) = and_false _
+child_or_end e (start_tag name) = and-false _
 child_or_end e (end_tag name) = refl
-child_or_end e (empty_tag name) = and_false _
-child_or_end e (char_data raw) = and_false _
+child_or_end e (empty_tag name) = and-false _
+child_or_end e (char_data raw) = and-false _
 child_or_end e unfit = refl
 
 blank_or_other : (e : Element) (p : Piece) → (is_blank_piece p && (is_free (λ c. true) (child_begun e p) || ends_element e p)) ≡ false
@@ -170,7 +171,7 @@ blank_or_other e declaration = refl
 blank_or_other e (start_tag name) = refl
 blank_or_other e (end_tag name) = refl
 blank_or_other e (empty_tag name) = refl
-blank_or_other e (char_data raw) = and_false _
+blank_or_other e (char_data raw) = and-false _
 blank_or_other e unfit = refl
 
 module _ (e : Element) (G : Rule Symbol ⊥ (List Found)) (read : List Symbol → Outcome Symbol ⊥ (List Found)) (g : Reads G (children_sight e) read) where
@@ -267,7 +268,7 @@ blank_or_tag e declaration = refl
 blank_or_tag e (start_tag name) = refl
 blank_or_tag e (end_tag name) = refl
 blank_or_tag e (empty_tag name) = refl
-blank_or_tag e (char_data raw) = and_false _
+blank_or_tag e (char_data raw) = and-false _
 blank_or_tag e unfit = refl
 
 declaration_or_rest : (p : Piece) → (is_declaration_piece p && (is_blank_piece p || (is_whole_element Request p || starts_element Request p))) ≡ false

@@ -1,5 +1,5 @@
 -- The table of elements: its names tell the elements that stand in one.
-use Rattle.std.proofs.Common.{◌≡◌, ℕ, ◌<◌, ◌&&◌, Bool, true, false, List, [], ◌∷◌, Some, slice_get, refl, sym, ap, ◌∙◌, subst, arith, eq-eqb, eqb-true, bytes_eq, if◌then◌else◌}
+use Rattle.std.proofs.Common.{◌≡◌, ℕ, ◌<◌, ◌&&◌, Bool, true, false, List, [], ◌∷◌, Some, slice_get, refl, sym, ap, ◌∙◌, subst, arith, eqb-true, bytes_eq, if◌then◌else◌}
 use Rattle.std.proofs.lemmas.Slice.Eq.{bytes_eq-Decides}
 use Rattle.request_elements.specs.declared.element.Element.{Element}
 use Rattle.request_elements.specs.declared.element.Element.TheVariants.{Request, Expression, ExpressionType, RequestProgress, Enabled, InputSerialization, CompressionType, CsvInput, AllowQuotedRecordDelimiter, Comments, InputFieldDelimiter, FileHeaderInfo, InputQuoteCharacter, InputQuoteEscapeCharacter, InputRecordDelimiter, JsonInput, JsonType, ParquetInput, OutputSerialization, CsvOutput, OutputFieldDelimiter, OutputQuoteCharacter, OutputQuoteEscapeCharacter, QuoteFields, CsvRecordDelimiter, JsonOutput, JsonRecordDelimiter, ScanRange, Start, End}
@@ -18,9 +18,6 @@ same_number a b n =
 
 pub same_is : (a b : Element) → same_element a b ≡ true → a ≡ b
 same_is a b e = same_number a b (eqb-true (number_of a) (number_of b) e)
-
-pub same_self : (a : Element) → same_element a a ≡ true
-same_self a = eq-eqb (number_of a) (number_of a) refl
 
 told_in : (parent other child : Element) → same_element parent other ≡ true → child_named other (name_of child) ≡ Some child → child_named parent (name_of child) ≡ Some child
 told_in parent other child e t = subst (λ p. child_named p (name_of child) ≡ Some child) (sym (same_is parent other e)) t

@@ -3,14 +3,12 @@ use Rattle.std.proofs.Common.{◌≡◌, ℕ, zero, suc, ◌+◌, ◌*◌, ◌^�
 use Rattle.std.proofs.lemmas.Bool.Decides.{nat_tests}
 use Rattle.std.specs.Prelude.{encode_utf8, nat_lt}
 use Rattle.std.specs.Char.{digit_value}
-use Rattle.std.proofs.Common.{eqb-true, inl, inr, SomeIff}
-use Rattle.std.specs.Char.{InScalarRange, OutOfScalarRange, IsScalar}
+use Rattle.std.proofs.Common.{eqb-true}
 use Rattle.std.proofs.Math.Nat.{mul-le-mul_left, mul-le-mul_right, le-mul_of_pos_right, mul_assoc, pow-succ', pow-zero}
 use Rattle.std.specs.List.{position_or_len, before_first, after_first}
 use Rattle.std.proofs.lemmas.Str.Pattern.{split_once_first, IsSplitOnceResult}
 use Rattle.request_elements.specs.Pieces.{has, up_to}
-use Rattle.request_elements.specs.Sights.{Splits}
-use Rattle.request_elements.specs.TextValue.{number_after, is_character, if_character, referred, then_resolved, resolved_behind, resolved}
+use Rattle.request_elements.specs.TextValue.{Splits, number_after, referred, then_resolved, resolved_behind, resolved}
 use Rattle.request_elements.proofs.CutLaws.{drop_behind}
 use Rattle.request_elements.proofs.ByteLaws.{up_to_front, has_front, whole_has, part_has, take_up_to}
 
@@ -121,19 +119,6 @@ few_digits (suc (suc (suc (suc (suc (suc (suc zero))))))) l = omega arith
 few_digits (suc (suc (suc (suc (suc (suc (suc (suc zero)))))))) l = omega arith
 few_digits (suc (suc (suc (suc (suc (suc (suc (suc (suc n))))))))) l = absurd (omega arith)
 
--- the number of a character
-out_of_range : (n : ℕ) → OutOfScalarRange n → is_character n ≡ false
-out_of_range n (inl h) = let a = h.0 in let b = h.1 in grind (arith, nat_tests)
-out_of_range n (inr h) = grind (arith, nat_tests)
-
-in_range : (n : ℕ) → 0 < n → InScalarRange n → is_character n ≡ true
-in_range n p (inl h) = grind (arith, nat_tests)
-in_range n p (inr h) = let a = h.0 in let b = h.1 in grind (arith, nat_tests)
-
-pub character_is : (n : ℕ) (r : Option ℕ) → 0 < n → SomeIff r (IsScalar n) n → MatchOption r (OutOfScalarRange n) (λ c. InScalarRange n) → r ≡ if_character (Some n)
-character_is n None p v h = rw (out_of_range n h) refl
-character_is n (Some c) p v h = rw (in_range n p h, v.1) refl
-
 -- ---- the steps of the loop: `so_far` was resolved
 
 taken_on : (so_far pre : List ℕ) (o : Option (List ℕ)) → option_map (λ r. so_far ++ r) (option_map (λ r. pre ++ r) o) ≡ option_map (λ r. (so_far ++ pre) ++ r) o
@@ -162,9 +147,6 @@ resolved_ends so_far left n =
     let e : resolved_behind 0 (left ++ []) ≡ Some (left ++ []) = resolved_plain left [] n in
     let f : resolved_behind 0 left ≡ Some left = subst (λ l. resolved_behind 0 l ≡ Some l) (append-nil left) e in
     rw f refl
-
-pub resolved_begins : (o : Option (List ℕ)) → o ≡ option_map (λ rest. [] ++ rest) o
-resolved_begins o = map_none o
 
 -- what `reference` tells
 pub reference_none : (text : List ℕ) → has 59 text ≡ false → resolved (38 ∷ text) ≡ None

@@ -1,5 +1,5 @@
 -- Readers of a body's pieces, which mirror the grammar's rules one by one.
-use Rattle.std.specs.Prelude.{◌≡◌, ℕ, zero, suc, Bool, true, false, List, [], ◌∷◌, ◌++◌, drop, Option, None, Result, Ok, Err, unwrap_or, if◌then◌else◌}
+use Rattle.std.specs.Prelude.{◌≡◌, ℕ, zero, suc, Bool, true, false, not, List, [], ◌∷◌, ◌++◌, drop, Option, None, Some, Result, Ok, Err, unwrap_or, slice_index_or, if◌then◌else◌}
 use Rattle.grammar_rules.specs.Rules.{takes, refuses}
 use Rattle.grammar_rules.specs.Readers.{Outcome, found, failed, and_then, read_made, read_terminal, is_seen, starts, chosen, read_before, read_pair, read_either, read_optional, read_members}
 use Rattle.request_elements.specs.declared.element.Element.{Element}
@@ -7,7 +7,7 @@ use Rattle.request_elements.specs.declared.element.Element.TheVariants.{Request}
 use Rattle.request_elements.specs.declared.found.Found.{Found}
 use Rattle.request_elements.specs.declared.elements.Failure.{Failure}
 use Rattle.request_elements.specs.declared.elements.Failure.TheVariants.{Refused, Memory}
-use Rattle.request_elements.specs.Elements.{is_leaf, is_child, same_element, child_named}
+use Rattle.request_elements.specs.Elements.{is_leaf, is_child, same_element, number_of, child_named}
 use Rattle.request_elements.specs.Pieces.{Piece, declaration, start_tag, end_tag, empty_tag, char_data, unfit, Symbol}
 use Rattle.request_elements.specs.Grammar.{is_declaration_piece, is_blank_piece, starts_element, ends_element, is_whole_element, characters_of, taken, found_alone, joined}
 
@@ -76,6 +76,22 @@ read_element (suc depth) e ss =
 
 unfoldable pub read_body : List Symbol → Outcome Symbol ⊥ (List Found)
 read_body ss = with_blanks (read_element 3 Request) (behind_blanks (behind (λ s. is_declaration_piece s.piece) ss))
+
+-- ---- the child in sight
+
+-- an element is free that isn't marked
+unfoldable pub free_of : List Bool → Element → Bool
+free_of marked e = not (slice_index_or marked (number_of e) false)
+
+-- the element that stands in this one and that the first piece begins
+abbrev pub first_child : Element → List Symbol → Option Element
+first_child e [] = None
+first_child e (s ∷ ss) = child_begun e s.piece
+
+-- the same where it is free
+abbrev pub where_free : (Element → Bool) → Option Element → Option Element
+where_free free None = None
+where_free free (Some c) = if free c then Some c else None
 
 -- ---- what the functions give
 

@@ -3,7 +3,8 @@
 -- It is UTF-8 without NUL. Each `&` in it begins a reference: `&lt;`, `&gt;`, `&amp;`, `&quot;`, `&apos;`, or `&#D;` or
 -- `&#xH;` with one to eight digits for a Unicode scalar value other than 0. All else stands for itself. That it holds no
 -- `<` is said by the cut into pieces, at which a text ends.
-use Rattle.std.specs.Prelude.{ℕ, zero, suc, ◌+◌, ◌*◌, Bool, ◌&&◌, ◌||◌, not, ◌==◌, nat_lt, nat_le, List, [], ◌∷◌, ◌++◌, length, Option, Some, None, option_map, codes, bytes_eq, encode_utf8, if◌then◌else◌}
+use Rattle.std.specs.Prelude.{◌≡◌, ℕ, zero, suc, ◌+◌, ◌*◌, Bool, false, ◌&&◌, ◌||◌, not, ◌==◌, nat_lt, nat_le, List, [], ◌∷◌, ◌++◌, length, Option, Some, None, option_map, codes, bytes_eq, encode_utf8, if◌then◌else◌}
+use Rattle.std.specs.Borrow.{Bor}
 use Rattle.std.specs.Char.{digit_value}
 use Rattle.std.specs.Str.{is_utf8}
 use Rattle.request_elements.specs.Pieces.{has, up_to}
@@ -69,3 +70,8 @@ resolved bytes = resolved_behind 0 bytes
 -- the UTF-8 of the text's characters, where it is a text
 unfoldable pub text_value : List ℕ → Option (List ℕ)
 text_value raw = if is_utf8 raw && not (has 0 raw) then resolved raw else None
+
+-- the bytes before the first such byte and those behind it, or there is none
+abbrev pub Splits : ℕ → List ℕ → Option (Bor (List ℕ) × Bor (List ℕ)) → Type 0
+Splits x bs None = has x bs ≡ false
+Splits x bs (Some p) = (bs ≡ p.0.now ++ x ∷ p.1.now) × (has x p.0.now ≡ false)

@@ -2,7 +2,8 @@
 ghost use Rattle.std.specs.Prelude.{◌≡◌, ◌<◌, ◌&&◌, bytes_eq};
 ghost use Rattle.request_elements.specs.Elements.{name_of, is_leaf, parent_of, number_of, is_child, first_named, child_named};
 
-/// An element of the body's table: a name, and where it stands. `CSV` of the input and `CSV` of the output are two.
+/// An element of a request body (Amazon S3 API Reference, SelectObjectContent): a name, and where it stands. `CSV` of the
+/// input and `CSV` of the output are two.
 #[derive(Clone, Copy, Debug, PartialEq, Eq)]
 pub enum Element {
     Request,
@@ -75,7 +76,7 @@ const ALL: [Element; COUNT] = [
 
 impl Element {
     /// Its place in the table.
-    pub fn number(self) -> usize
+    pub(crate) fn number(self) -> usize
         ensures value { result ≡ number_of self }
         ensures within { result < 30 }
     {
@@ -148,13 +149,13 @@ impl Element {
     }
 
     /// The name of its tags, as bytes.
-    pub fn name(self) -> &'static [u8]
+    pub(crate) fn name(self) -> &'static [u8]
         ensures { result.now ≡ name_of self }
     {
         self.name_text().as_bytes()
     }
 
-    /// The name of its tags.
+    /// The name of its tags, which an element elsewhere may share: `CSV` for `CsvInput` and for `CsvOutput`.
     pub fn name_text(self) -> &'static str
         ensures { result.now ≡ name_of self }
     {

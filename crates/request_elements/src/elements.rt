@@ -4,8 +4,7 @@ ghost use Rattle.grammar_rules.specs.Readers.{starts};
 ghost use Rattle.request_elements.specs.declared.elements.Failure.TheVariants.{Memory};
 ghost use Rattle.request_elements.specs.declared.elements.ElementsError.TheVariants.{OutOfMemory};
 ghost use Rattle.request_elements.specs.Grammar.{is_declaration_piece, is_whole_element, found_alone};
-ghost use Rattle.request_elements.specs.Readers.{behind, behind_blanks, read_whole, read_characters, read_leaf, read_container, read_children, read_element, read_body, onto, Gives, GivesCharacters, Closes, FailsToClose};
-ghost use Rattle.request_elements.specs.Taken.{free_of, first_child, where_free};
+ghost use Rattle.request_elements.specs.Readers.{behind, behind_blanks, read_whole, read_characters, read_leaf, read_container, read_children, read_element, read_body, free_of, first_child, where_free, onto, Gives, GivesCharacters, Closes, FailsToClose};
 ghost use Rattle.request_elements.specs.Body.{HasElements, IsMalformed, IsMalformedAs, IsAt, error_of};
 
 use crate::element::{COUNT, Element};
@@ -21,7 +20,8 @@ const DEPTH: u32 = 3;
 /// A body's elements can't be told.
 #[derive(Drop)]
 pub enum ElementsError {
-    /// The body is none by its grammar: the place of the first piece that can't stand there, or the body's length.
+    /// The body is none by its grammar: the place of the first tag or text that can't stand there, in bytes from the body's
+    /// front, or the body's length where it ends too early.
     Malformed(usize),
     OutOfMemory,
 }
@@ -44,7 +44,8 @@ impl From<AllocError> for Failure {
     }
 }
 
-/// Reads a body as the list of its elements, in the order in which they begin.
+/// Reads the body of a `SelectObjectContent` request (Amazon S3 API Reference) as the list of its elements, in the order in
+/// which they begin. Of XML 1.0 a body has elements, texts with references, a declaration and the root's namespace alone.
 pub fn read_elements(alloc: Global, body: &[u8]) -> Result<Vec<Found>, ElementsError>
     ensures sound { MatchResult result (λ found. HasElements body.now found.items) (λ e. IsMalformedAs body.now e) }
 
@@ -160,7 +161,7 @@ fn push_empty(
 ) -> Result<(), Failure>
     ensures { MatchResult result (λ _. found.new.items ≡ found.old.items ++ found_alone element at []) (λ e. e ≡ Memory) }
 {
-    let text = TextBuf::of(alloc, "")?;
+    let text = TextBuf::empty(alloc);
     push(found, Found { element, at, text })
 }
 
@@ -197,7 +198,7 @@ fn characters(alloc: Global, pieces: &mut PieceCursor<'_>) -> Result<TextBuf, Fa
             pieces.skip();
             Ok(text)
         }
-        None => Ok(TextBuf::of(alloc, "")?),
+        None => Ok(TextBuf::empty(alloc)),
     }
 }
 
@@ -249,12 +250,8 @@ fn children(
 fn next_child(pieces: &PieceCursor<'_>, parent: Element, taken: &[bool; COUNT]) -> Option<Element>
     ensures { result ≡ where_free (free_of taken.now) (first_child parent pieces.now) }
 {
-    let Some(name) = pieces.name() else {
-        return None;
-    };
-    let Some(child) = parent.child_named(name) else {
-        return None;
-    };
+    let name = pieces.name()?;
+    let child = parent.child_named(name)?;
     if taken[child.number()] {
         None
     } else {

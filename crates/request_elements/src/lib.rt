@@ -1,5 +1,5 @@
-//! The elements of a request body are read from its bytes by its grammar: each with its place and its text, or the first byte
-//! at which the body can't go on.
+//! The elements of a request body are read from its bytes by its grammar: each with its place and its text, or the place at
+//! which the body can't go on.
 #![tactic(auto)]
 
 mod element;

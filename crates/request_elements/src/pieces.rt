@@ -1,10 +1,10 @@
 //! The pieces of a body, one in sight at a time.
-ghost use Rattle.std.specs.Prelude.{◌≡◌, ◌==◌, ◌&&◌, ◌||◌, not, ℕ, ◌+◌, ◌<◌, ◌∷◌, length, drop, MatchOption, Some, None, if◌then◌else◌};
+ghost use Rattle.std.specs.Prelude.{◌≡◌, ◌==◌, ◌&&◌, ◌||◌, not, ◌+◌, ◌<◌, ◌∷◌, length, drop, MatchOption, Some, None, if◌then◌else◌};
 ghost use Rattle.std.specs.Str.{is_utf8};
 ghost use Rattle.grammar_rules.specs.Readers.{starts};
 ghost use Rattle.request_elements.specs.Pieces.{start_tag, empty_tag, ends_with, but_last, has, is_blank, are_blanks, up_to, without_last_blanks, without_first_blanks, is_declaration, is_root_with_namespace, is_namespace, is_declared, named, tag, cut, symbols_of, first_place};
 ghost use Rattle.request_elements.specs.Grammar.{is_declaration_piece, is_blank_piece, starts_element, ends_element, is_whole_element};
-ghost use Rattle.request_elements.specs.Sights.{shown, first_text, first_name};
+ghost use Rattle.request_elements.specs.Cursor.{shown, first_text, first_name};
 
 use crate::element::Element;
 use memchr::memchr;
@@ -40,7 +40,7 @@ pub(crate) struct PieceCursor<'b> {
 impl<'b> Model for PieceCursor<'b> {
     ghost use Rattle.std.specs.Prelude.{List, ◌+◌, ◌<◌, length};
     ghost use Rattle.request_elements.specs.Pieces.{Symbol};
-    ghost use Rattle.request_elements.specs.Sights.{seen};
+    ghost use Rattle.request_elements.specs.Cursor.{seen};
 
     ghost Value = { List Symbol };
 
@@ -123,7 +123,7 @@ impl<'b> PieceCursor<'b> {
         self.sight.is_none()
     }
 
-    /// The place of the piece in sight, or the body's length.
+    /// The place of the piece in sight, or `size` where none is left.
     pub(crate) fn place(&self, size: usize) -> usize
         ensures { result ≡ first_place size self.now }
     {

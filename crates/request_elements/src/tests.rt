@@ -3,6 +3,7 @@
 use crate::element::Element;
 use crate::elements::{ElementsError, read_elements};
 use crate::found::Found;
+use crate::text_buf::TextBuf;
 use std::test::Fail;
 
 /// The number of elements, or the place that is refused.
@@ -183,22 +184,31 @@ fn what_stands_in_the_root(rt: HostRuntime) -> Result<(), Fail> {
 fn places_and_texts(rt: HostRuntime) -> Result<(), Fail> {
     let body =
         b"<?xml version='1.0'?>\n<SelectObjectContentRequest><Expression>&#x41;&#65;&#233;&lt;&gt;&amp;&quot;&apos;</Expression>\n <InputSerialization><CSV><RecordDelimiter>\r\n</RecordDelimiter></CSV></InputSerialization></SelectObjectContentRequest>";
-    let expected: [(Element, usize, &str); 5] = [
-        (Element::Request, 22, ""),
-        (Element::Expression, 50, "AAé<>&\"'"),
-        (Element::InputSerialization, 119, ""),
-        (Element::CsvInput, 139, ""),
-        (Element::InputRecordDelimiter, 144, "\r\n"),
+    let expected: [(Element, &str, usize, &str); 5] = [
+        (Element::Request, "SelectObjectContentRequest", 22, ""),
+        (Element::Expression, "Expression", 50, "AAé<>&\"'"),
+        (Element::InputSerialization, "InputSerialization", 119, ""),
+        (Element::CsvInput, "CSV", 139, ""),
+        (
+            Element::InputRecordDelimiter,
+            "RecordDelimiter",
+            144,
+            "\r\n",
+        ),
     ];
     let Ok(found) = read_elements(rt.alloc(), body) else {
         assert_eq!(rt; 0, 1, "the body is refused");
         return Ok(());
     };
     assert_eq!(rt; found.len(), expected.len());
-    for (one, (element, at, text)) in found.iter().zip(expected) {
+    for (one, (element, name, at, text)) in found.iter().zip(expected) {
         assert_eq!(rt; one.element, element);
+        assert_eq!(rt; one.element.name_text(), name);
         assert_eq!(rt; one.at, at);
         assert_eq!(rt; one.text.text(), text);
     }
+    let own = TextBuf::from_string(String::from_str(rt.alloc(), "é")?);
+    assert_eq!(rt; own.text(), "é");
+    assert_eq!(rt; TextBuf::empty(rt.alloc()).text(), "");
     Ok(())
 }

@@ -1,8 +1,7 @@
 //! A text between two tags, and the characters that it stands for.
 ghost use Rattle.std.specs.Prelude.{◌≡◌, ◌<◌, ◌≤◌, ◌∷◌, true, false, length, Some, None, IfOk, IfSome, MatchOption};
 ghost use Rattle.std.specs.Str.{is_utf8};
-ghost use Rattle.request_elements.specs.Sights.{Splits};
-ghost use Rattle.request_elements.specs.TextValue.{by_name, by_number, if_character, number_after, numbered, referred, then_resolved, resolved, text_value};
+ghost use Rattle.request_elements.specs.TextValue.{Splits, by_name, by_number, if_character, number_after, numbered, referred, then_resolved, resolved, text_value};
 
 use crate::pieces::has;
 use crate::text_buf::TextBuf;
@@ -77,9 +76,7 @@ fn reference(text: &str) -> Option<(char, &str)>
 fn referred(name: &[u8]) -> Option<char>
     ensures { result ≡ referred name.now }
 {
-    let Some((first, rest)) = name.split_first() else {
-        return None;
-    };
+    let (first, rest) = name.split_first()?;
     if *first == b'#' {
         by_number(rest)
     } else {
@@ -112,9 +109,7 @@ fn by_name(name: &[u8]) -> Option<char>
 fn by_number(number: &[u8]) -> Option<char>
     ensures { result ≡ by_number number.now }
 {
-    let Some((first, digits)) = number.split_first() else {
-        return None;
-    };
+    let (first, digits) = number.split_first()?;
     if *first == b'x' {
         numbered(16, digits)
     } else {
@@ -134,10 +129,7 @@ fn numbered(base: u32, digits: &[u8]) -> Option<char>
     if digits.len() > 8 {
         return None;
     }
-    match number_of(base, digits) {
-        Some(number) => character_of(number),
-        None => None,
-    }
+    character_of(number_of(base, digits)?)
 }
 
 /// The number that at most eight digits spell.

@@ -1,11 +1,11 @@
-//! A text of a request.
+//! A text that is owned.
 ghost use Rattle.std.specs.Prelude.{◌≡◌, [], IfOk};
 ghost use Rattle.std.specs.String.{string_bytes};
 
 use std::alloc::{AllocError, Global};
 use std::marker::Model;
 
-/// A text that is owned, which contracts see as its bytes.
+/// A text of a request that is owned, which contracts see as its bytes, in UTF-8.
 #[derive(Drop)]
 pub struct TextBuf {
     text: String,

@@ -5,8 +5,7 @@ use Rattle.std.proofs.lemmas.List.{length-set}
 use Rattle.grammar_rules.specs.Readers.{closed_by}
 use Rattle.request_elements.specs.Pieces.{first_place}
 use Rattle.request_elements.specs.Grammar.{is_blank_piece, ends_element, found_alone}
-use Rattle.request_elements.specs.Readers.{behind_blanks, read_container, read_children, read_element, onto}
-use Rattle.request_elements.specs.Taken.{free_of, first_child}
+use Rattle.request_elements.specs.Readers.{behind_blanks, read_container, read_children, read_element, free_of, first_child, onto}
 use Rattle.request_elements.proofs.ChildLaws.{all_are_free, free_marked}
 use Rattle.request_elements.proofs.ReaderSteps.{children_begin, children_step, children_fail, children_stop, free_child, element_passes, behind_shorter, fails_on, close_gives, container_whole, container_refused, container_opened, onto_closed, onto_failed, element_leaf, element_zero, element_other}
 use Rattle.request_elements.proofs.elements.+element.Goals as goal

@@ -1,7 +1,6 @@
 -- What the loop over the children has read, and that the descent ends.
 use Rattle.std.proofs.Common.{◌≡◌, ◌+◌, ◌*◌, length}
-use Rattle.request_elements.specs.Readers.{read_children, read_element, onto}
-use Rattle.request_elements.specs.Taken.{free_of}
+use Rattle.request_elements.specs.Readers.{read_children, read_element, free_of, onto}
 use Rattle.request_elements.proofs.ReaderSteps.{children_left}
 use Rattle.request_elements.proofs.elements.+element.Given as goal
 

@@ -1,9 +1,8 @@
 -- What a contract sees of the cursor over a body's pieces.
-use Rattle.std.specs.Prelude.{◌≡◌, ℕ, false, List, [], ◌∷◌, ◌++◌, Option, Some, None}
-use Rattle.std.specs.Borrow.{Bor}
+use Rattle.std.specs.Prelude.{ℕ, List, [], ◌∷◌, Option, Some, None}
 use Rattle.request_elements.specs.declared.pieces.Piece.{Piece as Sight}
 use Rattle.request_elements.specs.declared.pieces.Piece.TheVariants.{Declaration, Start, End, Empty, Text, Unfit}
-use Rattle.request_elements.specs.Pieces.{Piece, declaration, start_tag, end_tag, empty_tag, char_data, unfit, Symbol, has, cut}
+use Rattle.request_elements.specs.Pieces.{Piece, declaration, start_tag, end_tag, empty_tag, char_data, unfit, Symbol, cut}
 
 -- the piece in sight
 abbrev pub shown : Sight → Piece
@@ -44,8 +43,3 @@ first_text (s ∷ ss) = text_of s.piece
 abbrev pub first_name : List Symbol → Option (List ℕ)
 first_name [] = None
 first_name (s ∷ ss) = beginning_name s.piece
-
--- the bytes before the first such byte and those behind it, or there is none
-abbrev pub Splits : ℕ → List ℕ → Option (Bor (List ℕ) × Bor (List ℕ)) → Type 0
-Splits x bs None = has x bs ≡ false
-Splits x bs (Some p) = (bs ≡ p.0.now ++ x ∷ p.1.now) × (has x p.0.now ≡ false)
