@@ -13,7 +13,7 @@ use crate::settings::request_of;
 use request_elements::{ElementsError, read_elements};
 use std::alloc::Global;
 
-/// The longest body that is read, in bytes.
+/// The longest body that is read, in bytes: a limit of this crate.
 pub const LONGEST_BODY: usize = 2_097_152;
 
 /// The body is none by its grammar, at this place.
