@@ -4,6 +4,7 @@ pub mod Lookups
 pub mod OneFault
 pub mod Parts
 pub mod Printables
+pub mod PrintedElements
 pub mod PrintedLength
 pub mod PrintedPieces
 pub mod PrintedTree
