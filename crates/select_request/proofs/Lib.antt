@@ -9,6 +9,7 @@ pub mod PrintedLength
 pub mod PrintedPieces
 pub mod PrintedTree
 pub mod Printing
+pub mod ReadTexts
 pub mod Readback
 pub mod Recovered
 pub mod Resolved

@@ -1,5 +1,5 @@
 -- What a printable request has.
-use Rattle.std.specs.Prelude.{◌≡◌, Bool, true, false, ◌&&◌, refl}
+use Rattle.std.specs.Prelude.{◌≡◌, Bool, true, ◌&&◌}
 use Rattle.std.proofs.lemmas.Bool.{and_parts}
 use Rattle.select_request.specs.Printable.{is_expression, is_input, is_output, is_range_of, is_valid, is_printable}
 use Rattle.select_request.specs.declared.request.SelectRequest.{SelectRequest}

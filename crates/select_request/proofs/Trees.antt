@@ -205,7 +205,7 @@ container_spelled e C at last found symbols h =
     )
 
 -- the rule of an element that stands in this one
-abbrev child_rule : Element → (Element → Rule Symbol ⊥ (List Found)) → Element → Rule Symbol ⊥ (List Found)
+abbrev pub child_rule : Element → (Element → Rule Symbol ⊥ (List Found)) → Element → Rule Symbol ⊥ (List Found)
 child_rule parent element c = allowed (is_child parent c) (followed_by (element c) blanks)
 
 allowed_spelled : (G : Rule Symbol ⊥ (List Found)) (b : Bool) (found : List Found) (symbols : List Symbol) → b ≡ true → G.Spells found symbols → (allowed b G).Spells found symbols
