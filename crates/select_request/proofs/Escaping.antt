@@ -1,6 +1,7 @@
 -- Escaping a text from one special byte to the next.
 use Rattle.std.specs.Prelude.{◌≡◌, ℕ, zero, suc, ◌+◌, ◌<◌, Bool, true, false, ◌||◌, ◌==◌, List, [], ◌∷◌, ◌++◌, length, take, drop, codes, slice_index, if◌then◌else◌, refl}
 use Rattle.std.proofs.Common.{◌∙◌, ap, arith, add-one}
+use Rattle.std.proofs.lemmas.Bool.{true≢false, false_from_ne_true}
 use Rattle.std.proofs.lemmas.Bool.Decides.{nat_tests}
 use Rattle.memchr.specs.Find.{is_byte3, Nowhere, Passes, NoneBefore}
 use Rattle.select_request.specs.Printed.{escaped_byte, escaped}
@@ -9,13 +10,10 @@ use Rattle.select_request.specs.Printed.{escaped_byte, escaped}
 abbrev pub is_special : ℕ → Bool
 is_special = is_byte3 60 62 38
 
-true_is_not_false : true ≡ false → ⊥
-true_is_not_false e = cc
-
 last_of_four : {A : Type 0} (x y z : Bool) (a b c d : A) → x || y || z ≡ false → (if x then a else if y then b else if z then c else d) ≡ d
-last_of_four true y z a b c d h = absurd (true_is_not_false h)
-last_of_four false true z a b c d h = absurd (true_is_not_false h)
-last_of_four false false true a b c d h = absurd (true_is_not_false h)
+last_of_four true y z a b c d h = absurd (true≢false h)
+last_of_four false true z a b c d h = absurd (true≢false h)
+last_of_four false false true a b c d h = absurd (true≢false h)
 last_of_four false false false a b c d h = refl
 
 -- another byte stands for itself
@@ -25,15 +23,11 @@ plain_byte b h = last_of_four (b == 60) (b == 62) (b == 38) (codes "&lt;") (code
 pub special_is_ascii : (b : ℕ) → is_special b ≡ true → b < 128
 special_is_ascii b h = grind (arith, nat_tests)
 
-not_true : (x : Bool) → (x ≡ true → ⊥) → x ≡ false
-not_true true h = absurd (h refl)
-not_true false h = refl
-
 -- a text without special bytes stands for itself
 pub escaped_plain : (text : List ℕ) → ((k : ℕ) → k < length text → is_special (slice_index text k) ≡ true → ⊥) → escaped text ≡ text
 escaped_plain [] none = refl
 escaped_plain (b ∷ text) none =
-    let here : escaped_byte b ≡ b ∷ [] = plain_byte b (not_true (is_special b) (none 0 (omega arith))) in
+    let here : escaped_byte b ≡ b ∷ [] = plain_byte b (false_from_ne_true (is_special b) (none 0 (omega arith))) in
     let later : escaped text ≡ text = escaped_plain text (λ k within passes. none (suc k) (omega arith) passes) in
     ap (λ e. e ++ escaped text) here ∙ ap (λ t. b ∷ t) later
 
@@ -43,7 +37,7 @@ pub escaped_cut : (text : List ℕ) (k : ℕ) → k < length text → ((j : ℕ)
 escaped_cut [] k within none = absurd (omega arith)
 escaped_cut (b ∷ text) zero within none = refl
 escaped_cut (b ∷ text) (suc k) within none =
-    let here : escaped_byte b ≡ b ∷ [] = plain_byte b (not_true (is_special b) (none 0 (omega arith))) in
+    let here : escaped_byte b ≡ b ∷ [] = plain_byte b (false_from_ne_true (is_special b) (none 0 (omega arith))) in
     let later = escaped_cut text k (omega arith) (λ j before passes. none (suc j) (omega arith) passes) in
     ap (λ e. e ++ escaped text) here ∙ ap (λ t. b ∷ t) later
 

@@ -4,10 +4,12 @@ pub mod Lookups
 pub mod OneFault
 pub mod Parts
 pub mod Printables
+pub mod PrintedElements
 pub mod PrintedLength
 pub mod PrintedPieces
 pub mod PrintedTree
 pub mod Printing
+pub mod ReadTexts
 pub mod Readback
 pub mod Recovered
 pub mod Resolved

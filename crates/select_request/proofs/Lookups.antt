@@ -3,7 +3,8 @@ use Rattle.std.specs.Prelude.{◌≡◌, ℕ, ◌+◌, Bool, true, false, List, 
 use Rattle.std.proofs.Common.{◌∙◌}
 use Rattle.request_elements.specs.Elements.{same_element}
 use Rattle.select_request.specs.Request.{find, text_at, text_in}
-use Rattle.select_request.specs.Printed.{Part, opens, leaf, closes, print_part, truth_text, header_text, quoting_text, delimiter_text, parts_of, found_in, found_of}
+use Rattle.select_request.specs.Printed.{Part, opens, leaf, closes, print_part, truth_text, header_text, quoting_text, delimiter_text, parts_of}
+use Rattle.select_request.proofs.PrintedElements.{found_in, found_of}
 use Rattle.request_elements.specs.declared.element.Element.{Element}
 use Rattle.request_elements.specs.declared.element.Element.TheVariants.{Request, Expression, ExpressionType, RequestProgress, Enabled, InputSerialization, CompressionType, CsvInput, AllowQuotedRecordDelimiter, Comments, InputFieldDelimiter, FileHeaderInfo, InputQuoteCharacter, InputQuoteEscapeCharacter, InputRecordDelimiter, JsonInput, JsonType, ParquetInput, OutputSerialization, CsvOutput, OutputFieldDelimiter, OutputQuoteCharacter, OutputQuoteEscapeCharacter, QuoteFields, CsvRecordDelimiter, JsonOutput, JsonRecordDelimiter, ScanRange, Start, End}
 use Rattle.request_elements.specs.declared.found.Found.{Found}
@@ -169,6 +170,3 @@ text_is x p Parquet (Json d) (Some (Last b)) e = refl
 pub found_is : (r : SelectRequest) (e : Element) → text_in e (found_of r) ≡ wanted r e
 unfolding found_of
 found_is r e = found_text e 0 (parts_of r) ∙ text_is r.expression r.progress r.input r.output r.range e
-
-pub funext : {A B : Type 0} {f g : A → B} → ((x : A) → f x ≡ g x) → f ≡ g
-funext h = λ i. λ x. h x i

@@ -1,16 +1,14 @@
 -- What a printable request has.
-use Rattle.std.specs.Prelude.{◌≡◌, Bool, true, false, ◌&&◌, refl}
+use Rattle.std.specs.Prelude.{◌≡◌, Bool, true, ◌&&◌}
+use Rattle.std.proofs.lemmas.Bool.{and_parts}
 use Rattle.select_request.specs.Printable.{is_expression, is_input, is_output, is_range_of, is_valid, is_printable}
 use Rattle.select_request.specs.declared.request.SelectRequest.{SelectRequest}
 
 pub and_left : (a b : Bool) → (a && b) ≡ true → a ≡ true
-and_left true b h = refl
-and_left false b h = h
+and_left a b h = (and_parts a b h).0
 
 pub and_right : (a b : Bool) → (a && b) ≡ true → b ≡ true
-and_right true b h = h
-and_right false true h = refl
-and_right false false h = h
+and_right a b h = (and_parts a b h).1
 
 pub record Printable (request : SelectRequest) : Type 0 where
   pub expression : is_expression request.expression ≡ true

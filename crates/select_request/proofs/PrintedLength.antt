@@ -1,6 +1,7 @@
 -- A printed body is within the limit.
 use Rattle.std.specs.Prelude.{◌≡◌, ℕ, ◌+◌, ◌*◌, ◌^◌, ◌<◌, ◌≤◌, Bool, true, false, ◌&&◌, nat_lt, nat_le, List, [], ◌∷◌, ◌++◌, length, Option, None, Some, decimal}
 use Rattle.std.proofs.Common.{arith}
+use Rattle.std.proofs.lemmas.Bool.{ltb-true}
 use Rattle.std.proofs.lemmas.Bool.Decides.{nat_tests}
 use Rattle.std.proofs.lemmas.Fmt.{length-decimal-le}
 use Rattle.std.proofs.Math.ListN.{length-append}
@@ -21,7 +22,7 @@ use Rattle.select_request.specs.declared.request.ScanRange.{ScanRange as Range}
 use Rattle.select_request.specs.declared.request.ScanRange.TheVariants.{Between, From, Last}
 use Rattle.select_request.specs.declared.request.SelectRequest.{SelectRequest}
 use Rattle.select_request.proofs.Printables.{and_left, and_right, printable}
-use Rattle.select_request.proofs.Readback.{less, at_most_less}
+use Rattle.select_request.proofs.Readback.{at_most_less}
 use Rattle.select_request.proofs.Resolved.{by_special}
 
 -- ---- a bound for each part
@@ -135,11 +136,11 @@ range_bound i (Some (Between start end)) h =
     let range = and_left (nat_le start end && nat_lt end (2 ^ 63)) (allows_range i) h in
     let order = and_left (nat_le start end) (nat_lt end (2 ^ 63)) range in
     let small = and_right (nat_le start end) (nat_lt end (2 ^ 63)) range in
-    omega (arith, decimal_bound start (at_most_less start end (2 ^ 63) order small), decimal_bound end (less end (2 ^ 63) small))
-range_bound i (Some (From start)) h = omega (arith, decimal_bound start (less start (2 ^ 63) (and_left (nat_lt start (2 ^ 63)) (allows_range i) h)))
+    omega (arith, decimal_bound start (at_most_less start end (2 ^ 63) order small), decimal_bound end (ltb-true end (2 ^ 63) small))
+range_bound i (Some (From start)) h = omega (arith, decimal_bound start (ltb-true start (2 ^ 63) (and_left (nat_lt start (2 ^ 63)) (allows_range i) h)))
 range_bound i (Some (Last count)) h =
     let range = and_left (nat_lt 0 count && nat_lt count (2 ^ 63)) (allows_range i) h in
-    omega (arith, decimal_bound count (less count (2 ^ 63) (and_right (nat_lt 0 count) (nat_lt count (2 ^ 63)) range)))
+    omega (arith, decimal_bound count (ltb-true count (2 ^ 63) (and_right (nat_lt 0 count) (nat_lt count (2 ^ 63)) range)))
 
 settings_bound : (r : SelectRequest) → weigh (settings_parts r) ≤ 1800
 settings_bound r =

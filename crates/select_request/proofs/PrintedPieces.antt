@@ -1,7 +1,7 @@
 -- The pieces of a printed body.
-use Rattle.std.specs.Prelude.{◌≡◌, ℕ, suc, ◌+◌, Bool, true, false, ◌||◌, ◌==◌, List, [], ◌∷◌, ◌++◌, length, if◌then◌else◌, refl}
+use Rattle.std.specs.Prelude.{◌≡◌, ℕ, suc, ◌+◌, true, false, ◌==◌, List, [], ◌∷◌, ◌++◌, length, refl}
 use Rattle.std.proofs.Common.{sym, ◌∙◌, ap, arith, append_assoc}
-use Rattle.std.proofs.lemmas.Bool.{eq-eqb, or_parts}
+use Rattle.std.proofs.lemmas.Bool.{eq-eqb, or_parts, or_right, cond-false}
 use Rattle.std.proofs.Math.ListN.{length-append}
 use Rattle.request_elements.specs.Elements.{name_of}
 use Rattle.request_elements.specs.Pieces.{Piece, start_tag, end_tag, char_data, Symbol, has, up_to, tag, is_declaration, named, namespace, cut_behind, cut, symbols_of}
@@ -39,26 +39,19 @@ skip_all : (xs ys : List ℕ) (at : ℕ) → cut_behind (length xs) at (xs ++ ys
 skip_all [] ys at = let e : at + 0 ≡ at = omega arith in rw e refl
 skip_all (x ∷ xs) ys at = let e : at + 1 + length xs ≡ at + suc (length xs) = omega arith in skip_all xs ys (at + 1) ∙ ap (λ n. cut_behind 0 n ys) e
 
-if_false : {A : Type 0} (t : Bool) (x y : A) → t ≡ false → (if t then x else y) ≡ y
-if_false t x y h = rw h refl
-
-pub eq_self : (n : ℕ) → (n == n) ≡ true
+eq_self : (n : ℕ) → (n == n) ≡ true
 eq_self n = eq-eqb n n refl
-
-or_true : (x y : Bool) → y ≡ true → (x || y) ≡ true
-or_true true y h = refl
-or_true false y h = h
 
 -- up to a byte that doesn't stand before
 up_to_first : (byte : ℕ) (xs ys : List ℕ) → has byte xs ≡ false → up_to byte (xs ++ byte ∷ ys) ≡ xs
 up_to_first byte [] ys h = let here : (byte == byte) ≡ true = eq_self byte in rw here refl
 up_to_first byte (x ∷ xs) ys h =
     let parts = or_parts (x == byte) (has byte xs) h in
-    if_false (x == byte) [] (x ∷ up_to byte (xs ++ byte ∷ ys)) parts.0 ∙ ap (λ t. x ∷ t) (up_to_first byte xs ys parts.1)
+    cond-false (x == byte) [] (x ∷ up_to byte (xs ++ byte ∷ ys)) parts.0 ∙ ap (λ t. x ∷ t) (up_to_first byte xs ys parts.1)
 
 has_there : (byte : ℕ) (xs ys : List ℕ) → has byte (xs ++ byte ∷ ys) ≡ true
 has_there byte [] ys = let here : (byte == byte) ≡ true = eq_self byte in rw here refl
-has_there byte (x ∷ xs) ys = or_true (x == byte) (has byte (xs ++ byte ∷ ys)) (has_there byte xs ys)
+has_there byte (x ∷ xs) ys = or_right (x == byte) (has byte (xs ++ byte ∷ ys)) (has_there byte xs ys)
 
 -- a tag
 tag_cut : (at : ℕ) (inside rest : List ℕ) → has 62 inside ≡ false

@@ -4,7 +4,7 @@ use Rattle.std.specs.List.{list_all}
 use Rattle.std.specs.Str.{all_ascii_digits}
 use Rattle.std.specs.Char.{is_ascii_digit}
 use Rattle.std.proofs.Common.{sym, subst, arith}
-use Rattle.std.proofs.lemmas.Bool.{or_from}
+use Rattle.std.proofs.lemmas.Bool.{or_from, ltb-true, not-true}
 use Rattle.std.proofs.lemmas.Bool.Decides.{nat_tests}
 use Rattle.std.proofs.lemmas.List.{append-nil}
 use Rattle.std.proofs.lemmas.Fmt.{digits_decimal}
@@ -13,7 +13,8 @@ use Rattle.request_elements.specs.TextValue.{text_value}
 use Rattle.request_elements.specs.Grammar.{element_within, request_body}
 use Rattle.select_request.specs.Values.{is_character}
 use Rattle.select_request.specs.Printable.{is_delimiter, is_input, is_output, allows_range, is_range_of, is_expression, is_printable}
-use Rattle.select_request.specs.Printed.{Part, escaped, truth_text, header_text, quoting_text, delimiter_text, parts_of, printed, found_in, found_of}
+use Rattle.select_request.specs.Printed.{Part, escaped, truth_text, header_text, quoting_text, delimiter_text, parts_of, printed}
+use Rattle.select_request.proofs.PrintedElements.{found_in, found_of}
 use Rattle.request_elements.specs.declared.element.Element.TheVariants.{Request, Expression, ExpressionType, RequestProgress, Enabled, InputSerialization, CompressionType, CsvInput, AllowQuotedRecordDelimiter, Comments, InputFieldDelimiter, FileHeaderInfo, InputQuoteCharacter, InputQuoteEscapeCharacter, InputRecordDelimiter, JsonInput, JsonType, ParquetInput, OutputSerialization, CsvOutput, OutputFieldDelimiter, OutputQuoteCharacter, OutputQuoteEscapeCharacter, QuoteFields, CsvRecordDelimiter, JsonOutput, JsonRecordDelimiter, ScanRange, Start, End}
 use Rattle.request_elements.specs.declared.found.Found.{Found}
 use Rattle.select_request.specs.declared.request.CsvInput.{CsvInput as CsvInputSettings}
@@ -32,7 +33,7 @@ use Rattle.select_request.specs.declared.request.SelectRequest.{SelectRequest}
 use Rattle.select_request.proofs.Lookups.{request_with}
 use Rattle.select_request.proofs.Printables.{and_left, and_right, Printable, printable}
 use Rattle.select_request.proofs.PrintedPieces.{symbols_in, symbols_of_parts}
-use Rattle.select_request.proofs.Readback.{less, at_most_less}
+use Rattle.select_request.proofs.Readback.{at_most_less}
 use Rattle.select_request.proofs.Recovered.{CsvInputHolds, csv_input_holds, CsvOutputHolds, csv_output_holds}
 use Rattle.select_request.proofs.Resolved.{ascii_is_utf8, text_value_escaped}
 use Rattle.select_request.proofs.Trees.{Tree, with_text, node, Trees, none, tree, tree_parts, is_tree, TreeReads, TreesRead, no_blanks, tree_spelled}
@@ -222,18 +223,14 @@ range_reads i (Some (Between start end)) h =
     let range = and_left (nat_le start end && nat_lt end (2 ^ 63)) (allows_range i) h in
     let order = and_left (nat_le start end) (nat_lt end (2 ^ 63)) range in
     let small = and_right (nat_le start end) (nat_lt end (2 ^ 63)) range in
-    ((decimal_reads start (at_most_less start end (2 ^ 63) order small), (decimal_reads end (less end (2 ^ 63) small), tt)), tt)
-range_reads i (Some (From start)) h = ((decimal_reads start (less start (2 ^ 63) (and_left (nat_lt start (2 ^ 63)) (allows_range i) h)), tt), tt)
+    ((decimal_reads start (at_most_less start end (2 ^ 63) order small), (decimal_reads end (ltb-true end (2 ^ 63) small), tt)), tt)
+range_reads i (Some (From start)) h = ((decimal_reads start (ltb-true start (2 ^ 63) (and_left (nat_lt start (2 ^ 63)) (allows_range i) h)), tt), tt)
 range_reads i (Some (Last count)) h =
     let range = and_left (nat_lt 0 count && nat_lt count (2 ^ 63)) (allows_range i) h in
-    ((decimal_reads count (less count (2 ^ 63) (and_right (nat_lt 0 count) (nat_lt count (2 ^ 63)) range)), tt), tt)
-
-not_true_is_false : (b : Bool) → not b ≡ true → b ≡ false
-not_true_is_false true h = sym h
-not_true_is_false false h = refl
+    ((decimal_reads count (ltb-true count (2 ^ 63) (and_right (nat_lt 0 count) (nat_lt count (2 ^ 63)) range)), tt), tt)
 
 expression_reads : (x : List ℕ) → IsUtf8 x → is_expression x ≡ true → text_value (escaped x) ≡ Some x
-expression_reads x u h = text_value_escaped x u (not_true_is_false (has 0 x) (and_right (nat_le (length x) 262144) (not (has 0 x)) h))
+expression_reads x u h = text_value_escaped x u (not-true (has 0 x) (and_right (nat_le (length x) 262144) (not (has 0 x)) h))
 
 tree_reads : (r : SelectRequest) → IsUtf8 r.expression → Printable r → TreeReads (tree_of r)
 tree_reads r u h = (

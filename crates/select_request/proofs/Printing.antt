@@ -2,7 +2,8 @@
 use Rattle.std.specs.Prelude.{◌≡◌, List, ℕ, IsUtf8, true}
 use Rattle.std.proofs.Common.{sym}
 use Rattle.select_request.specs.Printable.{is_printable}
-use Rattle.select_request.specs.Printed.{printed, found_of}
+use Rattle.select_request.specs.Printed.{printed}
+use Rattle.select_request.proofs.PrintedElements.{found_of}
 use Rattle.select_request.specs.Reading.{SpellsRequest}
 use Rattle.select_request.specs.declared.request.SelectRequest.{SelectRequest}
 use Rattle.select_request.proofs.PrintedLength.{printed_bound}

@@ -1,6 +1,7 @@
 -- Each value is read back from its text.
-use Rattle.std.specs.Prelude.{◌≡◌, ℕ, ◌^◌, ◌<◌, Bool, true, false, nat_lt, nat_le, ◌&&◌, ◌==◌, List, [], ◌∷◌, length, None, Some, decimal, if◌then◌else◌, refl}
+use Rattle.std.specs.Prelude.{◌≡◌, ℕ, ◌^◌, ◌<◌, Bool, true, false, nat_lt, nat_le, ◌&&◌, ◌==◌, List, [], ◌∷◌, length, None, Some, decimal, refl}
 use Rattle.std.proofs.Common.{arith}
+use Rattle.std.proofs.lemmas.Bool.{cond-true, ltb-true}
 use Rattle.std.proofs.lemmas.Bool.Decides.{nat_tests}
 use Rattle.std.proofs.lemmas.Fmt.{digits_value-decimal, digits_decimal, decimal_nonempty}
 use Rattle.std.specs.Str.{all_ascii_digits}
@@ -34,19 +35,16 @@ unfolding is_word
 quoting_read true = refl
 quoting_read false = refl
 
-if_true : {A : Type 0} (t : Bool) (x y : A) → t ≡ true → (if t then x else y) ≡ x
-if_true t x y h = rw h refl
-
 pub character_read : (b : ℕ) → is_character b ≡ true → character_of (b ∷ []) ≡ Some b
-character_read b h = if_true (is_character b) (Some b) None h
+character_read b h = cond-true (is_character b) (Some b) None h
 
 pub one_read : (d : Delimiter) → is_delimiter d ≡ true → is_one d ≡ true → one_of (delimiter_text d) ≡ Some d
-one_read (One a) h one = if_true (is_character a) (Some (One a)) None h
+one_read (One a) h one = cond-true (is_character a) (Some (One a)) None h
 one_read (Two a b) h one = absurd ((λ (e : false ≡ true). let no : ⊥ = cc in no) one)
 
 pub one_or_two_read : (d : Delimiter) → is_delimiter d ≡ true → one_or_two_of (delimiter_text d) ≡ Some d
-one_or_two_read (One a) h = if_true (is_character a) (Some (One a)) None h
-one_or_two_read (Two a b) h = if_true (is_character a && is_character b) (Some (Two a b)) None h
+one_or_two_read (One a) h = cond-true (is_character a) (Some (One a)) None h
+one_or_two_read (Two a b) h = cond-true (is_character a && is_character b) (Some (Two a b)) None h
 
 digits_are_digits : (text : List ℕ) → all_ascii_digits text ≡ true → 0 < length text → is_digits text ≡ true
 digits_are_digits [] h some = absurd (omega arith)
@@ -61,9 +59,6 @@ number_read n small =
     let fits : nat_lt n (2 ^ 63) ≡ true = grind (arith, nat_tests) in
     rw (digits, value, fits) refl
 
-pub less : (a b : ℕ) → nat_lt a b ≡ true → a < b
-less a b h = grind (arith, nat_tests)
-
 at_most : (a b : ℕ) → nat_le a b ≡ true → nat_lt b a ≡ false
 at_most a b h = grind (arith, nat_tests)
 
@@ -77,9 +72,9 @@ pub range_read : (g : ScanRange) → is_range g ≡ true → range_of (of_start 
 range_read (Between start end) h =
     let order = and_left (nat_le start end) (nat_lt end (2 ^ 63)) h in
     let small = and_right (nat_le start end) (nat_lt end (2 ^ 63)) h in
-    rw (number_read start (at_most_less start end (2 ^ 63) order small), number_read end (less end (2 ^ 63) small), at_most start end order) refl
-range_read (From start) h = rw (number_read start (less start (2 ^ 63) h)) refl
+    rw (number_read start (at_most_less start end (2 ^ 63) order small), number_read end (ltb-true end (2 ^ 63) small), at_most start end order) refl
+range_read (From start) h = rw (number_read start (ltb-true start (2 ^ 63) h)) refl
 range_read (Last count) h =
     let some = and_left (nat_lt 0 count) (nat_lt count (2 ^ 63)) h in
     let small = and_right (nat_lt 0 count) (nat_lt count (2 ^ 63)) h in
-    rw (number_read count (less count (2 ^ 63) small), not_zero count some) refl
+    rw (number_read count (ltb-true count (2 ^ 63) small), not_zero count some) refl

@@ -4,7 +4,8 @@ use Rattle.std.proofs.Common.{sym, ◌∙◌, ap, subst}
 use Rattle.select_request.specs.Values.{is_word, is_character, truth_of, header_of, quoting_of, character_of, one_of, one_or_two_of, range_of, input_is_apart, output_is_apart}
 use Rattle.select_request.specs.Request.{text_in, value_at, comma, double_quote, number_sign, line_feed, request_from}
 use Rattle.select_request.specs.Checks.{checks, fits_where_there, is_met, first_unmet, first_fault}
-use Rattle.select_request.specs.Printed.{truth_text, header_text, quoting_text, delimiter_text, found_of}
+use Rattle.select_request.specs.Printed.{truth_text, header_text, quoting_text, delimiter_text}
+use Rattle.select_request.proofs.PrintedElements.{found_of}
 use Rattle.select_request.specs.Printable.{is_delimiter, is_one, is_csv_input, is_csv_output, is_input, is_output, is_range, allows_range, is_range_of, is_printable}
 use Rattle.select_request.specs.declared.checks.Check.{Check}
 use Rattle.select_request.specs.declared.checks.Check.TheVariants.{Holds, Fits, HasFormat, HasOneFormat, InputIsApart, OutputIsApart, IsRange, AllowsRange}
@@ -21,7 +22,8 @@ use Rattle.select_request.specs.declared.request.Output.{Output}
 use Rattle.select_request.specs.declared.request.Output.TheVariants.{Csv as CsvReply, Json}
 use Rattle.select_request.specs.declared.request.ScanRange.{ScanRange as Range}
 use Rattle.select_request.specs.declared.request.SelectRequest.{SelectRequest}
-use Rattle.select_request.proofs.Lookups.{wanted, found_is, funext}
+use mathlib.Core.Path.{fun_ext}
+use Rattle.select_request.proofs.Lookups.{wanted, found_is}
 use Rattle.select_request.proofs.Printables.{and_left, and_right, Printable, printable}
 use Rattle.select_request.proofs.Readback.{truth_read, header_read, quoting_read, character_read, one_read, one_or_two_read, range_read}
 
@@ -106,7 +108,7 @@ request_by_texts found = refl
 
 -- the texts of a printed body
 texts_are : (r : SelectRequest) → texts_of (found_of r) ≡ wanted r
-texts_are r = funext (found_is r)
+texts_are r = fun_ext (found_is r)
 
 -- ---- the values
 

@@ -31,7 +31,7 @@ module _ (P : ℕ → List ℕ → Type 0) (less : P 60 (codes "&lt;")) (greater
 
 -- ---- bytes that don't stand in an escaped text
 
-any_append : (p : ℕ → Bool) (xs ys : List ℕ) → list_any p xs ≡ false → list_any p ys ≡ false → list_any p (xs ++ ys) ≡ false
+pub any_append : (p : ℕ → Bool) (xs ys : List ℕ) → list_any p xs ≡ false → list_any p ys ≡ false → list_any p (xs ++ ys) ≡ false
 any_append p xs ys h k = list_any-append p xs ys ∙ or_from (list_any p xs) (list_any p ys) h k
 
 -- no `<`

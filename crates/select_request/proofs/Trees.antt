@@ -1,20 +1,23 @@
 -- A body as a tree, whose pieces are spelled by the grammar for its elements.
-use Rattle.std.specs.Prelude.{◌≡◌, ℕ, zero, suc, ◌+◌, Bool, true, false, ◌&&◌, not, nat_eq, List, [], ◌∷◌, ◌++◌, length, None, Some, unwrap_or, bytes_eq, refl}
+use Rattle.std.specs.Prelude.{◌≡◌, ℕ, zero, suc, ◌+◌, Bool, true, false, ◌&&◌, not, List, [], ◌∷◌, ◌++◌, length, None, Some, unwrap_or, bytes_eq, refl}
 use Rattle.std.proofs.Common.{sym, ◌∙◌, ap, subst, arith, append_assoc}
+use Rattle.std.proofs.lemmas.Bool.{false≢true, not-true}
 use Rattle.std.proofs.lemmas.List.{append-nil}
+use Rattle.std.proofs.lemmas.Slice.Eq.{bytes_eq-Decides}
 use Rattle.std.proofs.Math.ListN.{length-append}
 use Rattle.grammar_rules.specs.Rules.{Rule, token, followed_by, allowed, without, some_members}
 use Rattle.request_elements.specs.Elements.{name_of, is_leaf, is_child, same_element}
 use Rattle.request_elements.specs.Pieces.{start_tag, end_tag, Symbol}
 use Rattle.request_elements.specs.TextValue.{text_value}
 use Rattle.request_elements.specs.Grammar.{starts_element, ends_element, blanks, start_of, end_of, characters, taken, found_alone, joined, leaf as leaf_rule, container, children, element_within}
-use Rattle.select_request.specs.Printed.{Part, opens, leaf, closes, escaped, start_tag as start_bytes, print_part, print_parts, found_in}
+use Rattle.select_request.specs.Printed.{Part, opens, leaf, closes, escaped, start_tag as start_bytes, print_part, print_parts}
 use Rattle.request_elements.specs.declared.element.Element.{Element}
 use Rattle.request_elements.specs.declared.found.Found.{Found}
 use Rattle.select_request.proofs.Printables.{and_left, and_right}
 use Rattle.std.proofs.lemmas.Str.{IsUtf8-nil}
 use Rattle.select_request.proofs.Resolved.{text_value_escaped}
-use Rattle.select_request.proofs.PrintedPieces.{symbol, raw_symbols, leaf_symbols, symbols_in, eq_self}
+use Rattle.select_request.proofs.PrintedElements.{found_in}
+use Rattle.select_request.proofs.PrintedPieces.{symbol, raw_symbols, leaf_symbols, symbols_in}
 
 -- ---- trees
 
@@ -117,15 +120,8 @@ found_append (x ∷ xs) ys at =
 
 -- ---- the rules
 
-false_is_not_true : false ≡ true → ⊥
-false_is_not_true e = cc
-
-and_from : (x y : Bool) → x ≡ true → y ≡ true → (x && y) ≡ true
-and_from x y h k = rw (h, k) refl
-
 same_bytes : (xs : List ℕ) → bytes_eq xs xs ≡ true
-same_bytes [] = refl
-same_bytes (x ∷ xs) = and_from (nat_eq x x) (bytes_eq xs xs) (eq_self x) (same_bytes xs)
+same_bytes xs = (bytes_eq-Decides xs xs).1 refl
 
 one_token : (test : Symbol → Bool) (s : Symbol) → test s ≡ true → (token {K = ⊥} test).Spells s (s ∷ [])
 one_token test s h = rw h refl
@@ -209,12 +205,12 @@ container_spelled e C at last found symbols h =
     )
 
 -- the rule of an element that stands in this one
-abbrev child_rule : Element → (Element → Rule Symbol ⊥ (List Found)) → Element → Rule Symbol ⊥ (List Found)
+abbrev pub child_rule : Element → (Element → Rule Symbol ⊥ (List Found)) → Element → Rule Symbol ⊥ (List Found)
 child_rule parent element c = allowed (is_child parent c) (followed_by (element c) blanks)
 
 allowed_spelled : (G : Rule Symbol ⊥ (List Found)) (b : Bool) (found : List Found) (symbols : List Symbol) → b ≡ true → G.Spells found symbols → (allowed b G).Spells found symbols
 allowed_spelled G true found symbols h w = w
-allowed_spelled G false found symbols h w = absurd (false_is_not_true h)
+allowed_spelled G false found symbols h w = absurd (false≢true h)
 
 child_spelled : (parent : Element) (element : Element → Rule Symbol ⊥ (List Found)) (c : Element) (found : List Found) (symbols : List Symbol)
     → is_child parent c ≡ true → (element c).Spells found symbols → (child_rule parent element c).Spells found symbols
@@ -276,10 +272,6 @@ container_within : (depth : ℕ) (e : Element) (found : List Found) (symbols : L
 unfolding element_within
 container_within depth e found symbols h w = rw h w
 
-not_false : (b : Bool) → not b ≡ true → b ≡ false
-not_false true h = sym h
-not_false false h = refl
-
 -- the place at which the parts end, and the end tag behind them
 closed_symbols : (parts : List Part) (e : Element) (at : ℕ)
     → symbols_in at (parts ++ closes e ∷ []) ≡ symbols_in at parts ++ symbol (at + length (print_parts parts)) (end_tag (name_of e)) ∷ []
@@ -292,7 +284,7 @@ mutual
   pub tree_spelled : (t : Tree) (depth at : ℕ) → is_tree t depth ≡ true → TreeReads t → (element_within depth (root_of t)).Spells (found_in at (tree_parts t)) (symbols_in at (tree_parts t))
   tree_spelled (with_text e t) depth at valid reads =
       leaf_within depth e _ _ valid (subst (λ (z : List Symbol). (leaf_rule e).Spells (found_alone e at t) z) (sym (append-nil (leaf_symbols at e (escaped t)))) (leaf_spelled e at (escaped t) t reads))
-  tree_spelled (node e ts) zero at valid reads = absurd (false_is_not_true valid)
+  tree_spelled (node e ts) zero at valid reads = absurd (false≢true valid)
   tree_spelled (node e ts) (suc depth) at valid reads =
       let inner = at + length (print_part (opens e)) in
       let others = are_trees ts depth e each_element in
@@ -300,7 +292,7 @@ mutual
       let children_are : (children e (element_within depth)).Spells (found_in inner (trees_parts ts)) (symbols_in inner (trees_parts ts)) =
       (members_of ts inner, joined_members ts inner, (count ts, spelled)) in
       let whole = container_spelled e (children e (element_within depth)) at (inner + length (print_parts (trees_parts ts))) (found_in inner (trees_parts ts)) (symbols_in inner (trees_parts ts)) children_are in
-      container_within depth e _ _ (not_false (is_leaf e) (and_left (not (is_leaf e)) others valid))
+      container_within depth e _ _ (not-true (is_leaf e) (and_left (not (is_leaf e)) others valid))
       (rw (closed_symbols (trees_parts ts) e inner, closed_found (trees_parts ts) e inner) whole)
 
   trees_spelled : (ts : Trees) (depth at : ℕ) (parent : Element) (free : Element → Bool) → are_trees ts depth parent free ≡ true → TreesRead ts

@@ -1,6 +1,7 @@
 -- The request of elements that pass all checks is valid.
 use Rattle.std.specs.Prelude.{◌≡◌, ℕ, zero, suc, ◌^◌, ◌<◌, Bool, true, false, nat_lt, nat_le, ◌&&◌, ◌==◌, not, List, [], ◌∷◌, Option, None, Some, is_some, unwrap_or, if◌then◌else◌, refl}
 use Rattle.std.proofs.Common.{◌∙◌, ap, subst, arith}
+use Rattle.std.proofs.lemmas.Bool.{false≢true, and_from, ltb-true}
 use Rattle.std.proofs.lemmas.Bool.Decides.{nat_tests}
 use Rattle.std.specs.Str.Parse.{digits_value}
 use Rattle.select_request.specs.Values.{is_character, is_digits, truth_of, character_of, one_of, one_or_two_of, whole_number_of, between, from_start, last_bytes, range_of, input_is_apart, output_is_apart}
@@ -19,7 +20,6 @@ use Rattle.select_request.specs.declared.request.ScanRange.{ScanRange as Range}
 use Rattle.select_request.specs.declared.request.ScanRange.TheVariants.{Between, From, Last}
 use Rattle.select_request.specs.declared.request.SelectRequest.{SelectRequest}
 use Rattle.select_request.proofs.Printables.{and_right}
-use Rattle.select_request.proofs.Readback.{less}
 
 -- ---- the checks that are met
 
@@ -89,9 +89,6 @@ met found none =
 
 -- ---- values
 
-false_is_not_true : false ≡ true → ⊥
-false_is_not_true e = cc
-
 guarded : {A : Type 0} (t : Bool) (a : A) → is_some (if t then Some a else None) ≡ true → t ≡ true
 guarded true a h = refl
 guarded false a h = h
@@ -100,10 +97,10 @@ taken : {A : Type 0} (t : Bool) (a default : A) → t ≡ true → unwrap_or (if
 taken t a default h = rw h refl
 
 character_fits : (text : List ℕ) (default : ℕ) → is_some (character_of text) ≡ true → is_character (unwrap_or (character_of text) default) ≡ true
-character_fits [] default h = absurd (false_is_not_true h)
+character_fits [] default h = absurd (false≢true h)
 character_fits (b ∷ []) default h =
     let t = guarded (is_character b) b h in ap is_character (taken (is_character b) b default t) ∙ t
-character_fits (b ∷ c ∷ text) default h = absurd (false_is_not_true h)
+character_fits (b ∷ c ∷ text) default h = absurd (false≢true h)
 
 character_in : (text : Option (List ℕ)) (default : ℕ) → is_character default ≡ true → fits_where_there Comments text ≡ true → is_character (value_at character_of default text) ≡ true
 character_in None default d h = d
@@ -111,11 +108,11 @@ character_in (Some text) default d h = character_fits text default h
 
 one_fits : (text : List ℕ) (default : Delimiter) → is_some (one_of text) ≡ true
     → (is_delimiter (unwrap_or (one_of text) default) ≡ true) × (is_one (unwrap_or (one_of text) default) ≡ true)
-one_fits [] default h = absurd (false_is_not_true h)
+one_fits [] default h = absurd (false≢true h)
 one_fits (b ∷ []) default h =
     let t = guarded (is_character b) (One b) h in
     (ap is_delimiter (taken (is_character b) (One b) default t) ∙ t, ap is_one (taken (is_character b) (One b) default t))
-one_fits (b ∷ c ∷ text) default h = absurd (false_is_not_true h)
+one_fits (b ∷ c ∷ text) default h = absurd (false≢true h)
 
 one_in : (text : Option (List ℕ)) → fits_where_there InputRecordDelimiter text ≡ true
     → (is_delimiter (value_at one_of (One line_feed) text) ≡ true) × (is_one (value_at one_of (One line_feed) text) ≡ true)
@@ -123,19 +120,16 @@ one_in None h = (refl, refl)
 one_in (Some text) h = one_fits text (One line_feed) h
 
 two_fits : (text : List ℕ) (default : Delimiter) → is_some (one_or_two_of text) ≡ true → is_delimiter (unwrap_or (one_or_two_of text) default) ≡ true
-two_fits [] default h = absurd (false_is_not_true h)
+two_fits [] default h = absurd (false≢true h)
 two_fits (b ∷ []) default h =
     let t = guarded (is_character b) (One b) h in ap is_delimiter (taken (is_character b) (One b) default t) ∙ t
 two_fits (b ∷ c ∷ []) default h =
     let t = guarded (is_character b && is_character c) (Two b c) h in ap is_delimiter (taken (is_character b && is_character c) (Two b c) default t) ∙ t
-two_fits (b ∷ c ∷ d ∷ text) default h = absurd (false_is_not_true h)
+two_fits (b ∷ c ∷ d ∷ text) default h = absurd (false≢true h)
 
 two_in : (text : Option (List ℕ)) → fits_where_there CsvRecordDelimiter text ≡ true → is_delimiter (value_at one_or_two_of (One line_feed) text) ≡ true
 two_in None h = refl
 two_in (Some text) h = two_fits text (One line_feed) h
-
-and_from : (x y : Bool) → x ≡ true → y ≡ true → (x && y) ≡ true
-and_from x y h k = rw (h, k) refl
 
 csv_input_valid : (found : List Found) → Met found → is_csv_input (csv_input_from found) ≡ true
 csv_input_valid found m =
@@ -181,7 +175,7 @@ output_by_format false found m = two_in (text_in JsonRecordDelimiter found) m.js
 -- ---- ranges
 
 small_by : (t : Bool) (v n : ℕ) → (t ≡ true → nat_lt v (2 ^ 63) ≡ true) → (if t then Some v else None) ≡ Some n → n < 2 ^ 63
-small_by true v n f h = let below : v < 2 ^ 63 = less v (2 ^ 63) (f refl) in let same : v ≡ n = cc in omega arith
+small_by true v n f h = let below : v < 2 ^ 63 = ltb-true v (2 ^ 63) (f refl) in let same : v ≡ n = cc in omega arith
 small_by false v n f h = absurd ((λ (e : None ≡ Some n). let no : ⊥ = cc in no) h)
 
 number_small : (text : List ℕ) (n : ℕ) → whole_number_of text ≡ Some n → n < 2 ^ 63

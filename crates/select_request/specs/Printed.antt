@@ -1,10 +1,9 @@
 -- The body that is printed for a request: its elements in the order of the table, each with its value,
 -- nothing between them, and `<`, `>` and `&` of a text as references.
-use Rattle.std.specs.Prelude.{ℕ, ◌+◌, Bool, true, false, ◌==◌, List, [], ◌∷◌, ◌++◌, length, Option, None, Some, codes, decimal, if◌then◌else◌}
+use Rattle.std.specs.Prelude.{ℕ, Bool, true, false, ◌==◌, List, [], ◌∷◌, ◌++◌, Option, None, Some, codes, decimal, if◌then◌else◌}
 use Rattle.request_elements.specs.Elements.{name_of}
 use Rattle.request_elements.specs.declared.element.Element.{Element}
 use Rattle.request_elements.specs.declared.element.Element.TheVariants.{Request, Expression, ExpressionType, RequestProgress, Enabled, InputSerialization, CompressionType, CsvInput, AllowQuotedRecordDelimiter, Comments, InputFieldDelimiter, FileHeaderInfo, InputQuoteCharacter, InputQuoteEscapeCharacter, InputRecordDelimiter, JsonInput, JsonType, ParquetInput, OutputSerialization, CsvOutput, OutputFieldDelimiter, OutputQuoteCharacter, OutputQuoteEscapeCharacter, QuoteFields, CsvRecordDelimiter, JsonOutput, JsonRecordDelimiter, ScanRange, Start, End}
-use Rattle.request_elements.specs.declared.found.Found.{Found}
 use Rattle.select_request.specs.declared.request.CsvInput.{CsvInput as CsvInputSettings}
 use Rattle.select_request.specs.declared.request.CsvOutput.{CsvOutput as CsvOutputSettings}
 use Rattle.select_request.specs.declared.request.Delimiter.{Delimiter}
@@ -130,16 +129,3 @@ parts_of request =
 -- the printed body
 abbrev pub printed : SelectRequest → List ℕ
 printed request = print_parts (parts_of request)
-
--- ---- its elements
-
--- the elements of parts that begin at this place, each at its start tag
-abbrev pub found_in : ℕ → List Part → List Found
-found_in at [] = []
-found_in at (opens e ∷ parts) = record { element = e; at = at; text = [] } ∷ found_in (at + length (print_part (opens e))) parts
-found_in at (leaf e text ∷ parts) = record { element = e; at = at; text = text } ∷ found_in (at + length (print_part (leaf e text))) parts
-found_in at (closes e ∷ parts) = found_in (at + length (print_part (closes e))) parts
-
--- the elements of the printed body
-unfoldable pub found_of : SelectRequest → List Found
-found_of request = found_in 0 (parts_of request)

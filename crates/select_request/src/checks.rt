@@ -9,7 +9,7 @@ use crate::values::{character, header, is_word, one, one_or_two, quoting, truth}
 use request_elements::{Element, Found};
 
 /// A check on the elements found in a body.
-#[derive(Clone, Copy, Debug, PartialEq, Eq)]
+#[derive(Clone, Copy)]
 pub(crate) enum Check {
     /// Where the first element is there, it holds the second.
     Holds(Element, Element),
@@ -29,7 +29,7 @@ pub(crate) enum Check {
     AllowsRange,
 }
 
-/// All checks.
+/// All checks, in their order.
 static CHECKS: [Check; 30] = [
     Check::Holds(Element::Request, Element::Expression),
     Check::Holds(Element::Request, Element::ExpressionType),

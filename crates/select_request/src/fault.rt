@@ -1,14 +1,16 @@
 //! Why a body is refused.
 
-/// The first fault of a body.
+/// The first fault of a request body.
 #[derive(Clone, Copy, Debug, PartialEq, Eq)]
 pub struct RequestFault {
+    /// What is wrong.
     pub code: RequestFaultCode,
-    /// The fault's place, in bytes from the body's front.
+    /// The place, in bytes from the body's front: of the piece that can't stand there, or of the `<` of the element at
+    /// fault.
     pub at: u64,
 }
 
-/// The kinds of faults, each named as in the reply.
+/// The kinds of faults, each named as in the reply (Amazon S3 API Reference, List of SELECT Object Content Error Codes).
 #[derive(Clone, Copy, Debug, PartialEq, Eq)]
 pub enum RequestFaultCode {
     /// The body is too long, or is none by the grammar: the first piece that can't stand there, or its end.
@@ -27,9 +29,11 @@ pub enum RequestFaultCode {
     UnsupportedScanRangeInput,
 }
 
-/// A body was refused, or memory was.
+/// Why a body isn't read.
 #[derive(Clone, Copy, Debug, PartialEq, Eq)]
 pub enum ReadError {
+    /// The body has this fault.
     Refused(RequestFault),
+    /// Memory was refused, and nothing is said of the body.
     OutOfMemory,
 }

@@ -5,7 +5,7 @@ ghost use Rattle.select_request.specs.Request.{find, has, text_in, place_in};
 use request_elements::{Element, Found, TextBuf};
 
 /// The first of the elements found that is this one.
-pub(crate) fn find(found: &[Found], element: Element) -> Option<&Found>
+fn find(found: &[Found], element: Element) -> Option<&Found>
     ensures { option_map (λ f. f.now) result ≡ find element found.now }
 {
     for one in found {

@@ -24,4 +24,4 @@ pub use request::{
 pub use request_elements::TextBuf;
 
 #[cfg(test)]
-mod body_tests;
+mod tests;

@@ -12,7 +12,7 @@ use request_elements::{Element, TextBuf};
 use std::alloc::{AllocError, Global};
 use std::marker::Model;
 
-/// Room for all but the expression, whose references may take more.
+/// Room in bytes for all but the expression, whose references may take more.
 const SETTINGS_ROOM: usize = 2048;
 
 /// The body so far.
@@ -300,8 +300,8 @@ fn cut_at_special(text: &str) -> Option<(&str, u8, &str)>
     Some((&text[..at], byte, &text[at + 1..]))
 }
 
-/// The body of a request: without a declaration and without the namespace, each element with its value, nothing between
-/// the elements.
+/// The body of a request: without a declaration and without the namespace, the elements in the order of their table,
+/// each with its value, nothing between them. An error is refused memory.
 pub fn print(alloc: Global, request: &SelectRequest) -> Result<TextBuf, AllocError>
     requires { IsTrue (is_printable request.now) }
     ensures text { IfOk result (λ text. text ≡ printed request.now) }

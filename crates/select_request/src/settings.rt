@@ -90,7 +90,7 @@ pub(crate) fn csv_input_from(found: &[Found]) -> CsvInput
 }
 
 /// The object's format.
-pub(crate) fn input_from(found: &[Found]) -> Input
+fn input_from(found: &[Found]) -> Input
     ensures { result ≡ input_from found.now }
 {
     if has(found, Element::CsvInput) {
@@ -117,7 +117,7 @@ pub(crate) fn csv_output_from(found: &[Found]) -> CsvOutput
 }
 
 /// The reply's format.
-pub(crate) fn output_from(found: &[Found]) -> Output
+fn output_from(found: &[Found]) -> Output
     ensures { result ≡ output_from found.now }
 {
     if has(found, Element::CsvOutput) {

@@ -1,13 +1,12 @@
-//! The values that pass the checks that a body's do.
+//! Which requests a body can spell: the tests for a caller that made or changed a request itself.
 ghost use Rattle.std.specs.Prelude.{◌≡◌, is_some};
 ghost use Rattle.select_request.specs.Values.{is_character};
 ghost use Rattle.select_request.specs.Printable.{is_delimiter, is_one, is_csv_input, is_csv_output, is_input, is_output, is_range, allows_range, is_range_of, is_expression, is_valid, is_printable};
 
 use crate::request::{CsvInput, CsvOutput, Delimiter, Input, Output, ScanRange, SelectRequest};
 use crate::values::is_character;
-use memchr::memchr;
 
-/// The longest expression that is printed, in bytes.
+/// The longest expression that is printed, in bytes: the 256 KB that Amazon S3 Select takes.
 const LONGEST_EXPRESSION: usize = 262_144;
 
 /// Whether the delimiter's bytes are ASCII characters.
@@ -107,7 +106,9 @@ fn is_expression(text: &str) -> bool
 }
 
 impl SelectRequest {
-    /// Whether its values pass the checks that a body's do, as those of each request that was read do.
+    /// Whether its values pass the checks that a body's do, as those of each request that was read do: its characters
+    /// are ASCII other than NUL and not in each other's way, its object's record delimiter is one byte, and its range is
+    /// not empty, has numbers up to 2^63 - 1, and stands beside no quoted record delimiters.
     #[tactic(auto, unfolding(crate::specs::Printable::is_valid))]
     pub fn is_valid(&self) -> bool
         ensures { result ≡ is_valid self.now }

@@ -2,6 +2,7 @@ use Rattle.std.specs.Prelude.{◌≤◌, length}
 use Rattle.std.proofs.Common.{◌∙◌, ap, arith}
 use Rattle.select_request.specs.Reading.{longest_body}
 use Rattle.select_request.proofs.ValidRequests.{spelled_is_valid}
+use Rattle.select_request.proofs.ReadTexts.{read_is_printable}
 use Rattle.select_request.proofs.OneFault.{refused_at, malformed_one_fault}
 use Rattle.select_request.proofs.body.read.Goals as goal
 
@@ -16,3 +17,7 @@ returns-in-Err-Malformed-clause-fault c =
 pub returns-in-Ok-request_of-clause-valid : goal.returns-in-Ok-request_of-clause-valid
 returns-in-Ok-request_of-clause-valid c =
     spelled_is_valid c.in-Ok-request_of.request _ c.in-Ok-request_of.ensures.request.1 c.in-Ok-request_of.ensures.request.0
+
+pub returns-in-Ok-request_of-clause-printable : goal.returns-in-Ok-request_of-clause-printable
+returns-in-Ok-request_of-clause-printable c = λ short.
+    read_is_printable c.args.body.now c.in-Ok-request_of.request _ c.in-Ok.ensures.sound c.in-Ok-request_of.ensures.request.1 c.in-Ok-request_of.ensures.request.0 short
