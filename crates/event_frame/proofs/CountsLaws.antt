@@ -76,12 +76,6 @@ no_number-large bytes at number digit r d large digits more n is e =
     ap (digits_value 10) (sym front) ∙ value_more bytes at number digit r d in
     omega (arith, is.value, is.fits)
 
-pub no_number-none : (bytes : List ℕ) → is_ascii_digit (get_or bytes 0 0) ≡ false → HasNoNumber bytes
-no_number-none bytes other digits more n is e =
-    let first : get_or bytes 0 0 ≡ get_or digits 0 0 = ap (λ (l : List ℕ). get_or l 0 0) e ∙ get_or_append_left digits (60 ∷ more) 0 0 is.some in
-    let digit : is_ascii_digit (get_or bytes 0 0) ≡ true = ap is_ascii_digit first ∙ is.are_digits 0 is.some in
-    cc
-
 pub spells-number : (bytes rest : List ℕ) (at number : ℕ) → ReadUpTo bytes at number → (at ≡ 0 → ⊥)
     → is_ascii_digit (get_or bytes at 0) ≡ false → rest ≡ take (length bytes - at) (drop at bytes) → SpellsNumber bytes number rest
 spells-number bytes rest at number r some ended rest_is =

@@ -52,11 +52,6 @@ pub record Listing (bytes places rest : List ℕ) : Type 0 where
   pub lists : ListsHeaders bytes places rest
   pub few : 5 * length places + length rest ≤ length bytes
 
-pub listing-start : (bytes places : List ℕ) → places ≡ [] → Listing bytes places bytes
-listing-start bytes places none =
-    let size : length places ≡ 0 = ap length none in
-    record { lists = record { headers = []; can_be_written = tt; spelled = refl; places_are = none }; few = omega arith }
-
 -- a header takes five bytes or more
 pub header-size : (rest name value after : List ℕ) → SpellsHeader rest name value after → 5 + length after ≤ length rest
 header-size rest name value after found =
@@ -94,10 +89,6 @@ listing-more bytes places rest name value after places' listing found added =
       few = omega (arith, listing.few, header-size rest name value after found);
     }
 
-pub listing-end : (bytes places rest : List ℕ) → Listing bytes places rest → HasNoHeader rest → ListsAllHeaders bytes places (length bytes - length rest)
-listing-end bytes places rest listing nothing =
-    record { rest = rest; lists = listing.lists; last = nothing; end_is = omega (arith, listing.few) }
-
 -- ---- looking at neighbours
 
 -- the least repeat among the places before an index
@@ -108,9 +99,6 @@ pub record RepeatSoFar (bytes places : List ℕ) (end i least : ℕ) : Type 0 wh
       × (name_at bytes (get_or places k 0) ≡ name_at bytes (get_or places (k + 1) 0))
   pub is_least : (k : ℕ) → k + 1 < i → name_at bytes (get_or places k 0) ≡ name_at bytes (get_or places (k + 1) 0)
       → least ≤ get_or places (k + 1) 0
-
-pub repeat-start : (bytes places : List ℕ) (end : ℕ) → RepeatSoFar bytes places end 1 end
-repeat-start bytes places end = record { within = omega arith; is_one = λ h. absurd (omega arith); is_least = λ k h. absurd (omega arith) }
 
 -- the next place, whose left neighbour is at k
 repeat-more : (bytes places : List ℕ) (end k least least' : ℕ) → RepeatSoFar bytes places end (k + 1) least → k + 1 < length places → least' ≤ least

@@ -78,16 +78,6 @@ ahead_grown : (old new : View) → old.lead ≤ length old.kept → (grows : Gro
 ahead_grown old new led grows =
     ap (λ n. drop n new.kept) grows.lead ∙ ap (drop old.lead) grows.kept ∙ drop-append-le old.lead old.kept grows.piece led
 
-pub measuring_none : (opened : Opened) (v : View) (n : ℕ) → IsSound v → v.failed ≡ false → Measuring opened v v 0 n n
-measuring_none opened v n sound works = record {
-  grows = grows_none v sound;
-  taken = took_none _ n (omega arith);
-  failed = works;
-  within = omega arith;
-  clear = λ k lt. absurd (omega arith);
-  told = λ object tells h. h;
-}
-
 pub measuring_more : (opened : Opened) (old mid new : View) (scanned n before between after : ℕ) → Measuring opened old mid scanned before between
     → mid.lead ≤ length mid.kept → n ≡ length (ahead mid) → IsClear mid n
     → Grows mid new → new.failed ≡ mid.failed → ((object : List ℕ) → Tells opened object → Holds object mid → Holds object new)

@@ -129,13 +129,6 @@ ready_behind object c v delimiter lead some here within before holds =
     start_first v.delimiter object (place v) v.last
     (ap (λ d. is_start d object (place v)) delimiter ∙ ap (is_start (c ∷ []) object) (sym at) ∙ starts_here) within
 
--- the object's front is a start
-pub ready_front : (object : List ℕ) (v : View) → place v ≡ 0 → v.last < v.size → length object ≡ v.size
-    → left object v ≡ place v ∷ starts_in v.delimiter object (place v + 1) v.last
-ready_front object v front before size =
-    start_first v.delimiter object (place v) v.last
-    (ap (is_start v.delimiter object) front ∙ start_front v.delimiter object (omega arith)) (omega arith)
-
 -- a body that a delimiter ends
 pub lent_ended : (object : List ℕ) (c n : ℕ) (v : View) → Holds object v → v.lead ≤ length v.kept → length v.kept ≤ v.upto → v.upto ≤ v.size
     → v.delimiter ≡ c ∷ []

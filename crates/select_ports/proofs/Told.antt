@@ -60,11 +60,3 @@ appends-front-after a b c first second more added front = record {
   is_front = front-joined first second front.front more front.is_front;
   appended = Appends-trans a b c first front.front added front.appended;
 }
-
--- nothing is a front of anything
-pub appends-front-none : (a b : Option (List ℕ)) (bytes : List ℕ) → Keeps a b → AppendsFront a b bytes
-appends-front-none a b bytes kept = record {
-  front = [];
-  is_front = record { rest = bytes; joined = refl };
-  appended = appends-kept a a b [] (Appends-nil a) kept;
-}
