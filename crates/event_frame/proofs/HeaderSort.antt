@@ -14,8 +14,8 @@ use Rattle.std.specs.declared.cmp.Ordering.{Ordering}
 use Rattle.event_frame.specs.Message.{Header, print_header, print_headers}
 use Rattle.event_frame.specs.Event.{header}
 use Rattle.event_frame.specs.Reading.{IsHeader}
-use Rattle.event_frame.specs.HeaderFront.{HasNoHeader, SpellsHeader}
-use Rattle.event_frame.specs.HeaderPlaces.{CanBeWritten, places_from, ListsHeaders, ListsAllHeaders, by_name, name_at}
+use Rattle.event_frame.specs.HeaderFront.{SpellsHeader}
+use Rattle.event_frame.specs.HeaderPlaces.{CanBeWritten, places_from, ListsHeaders, by_name, name_at}
 use Rattle.event_frame.proofs.HeaderLaws.{flat}
 
 pub by_name-total : (bytes : List ℕ) → IsTotalOrder (by_name bytes)

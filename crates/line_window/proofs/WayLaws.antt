@@ -1,12 +1,12 @@
 -- The loops of a window: the way to the next start, and to the end of a line.
-use Rattle.std.proofs.Common.{◌≡◌, ℕ, ◌+◌, ◌-◌, ◌≤◌, true, false, List, [], ◌++◌, length, drop, get_or, Result, Ok, Err, refl, sym, ap, ◌∙◌, inl, inr, arith, length-append}
-use Rattle.std.proofs.lemmas.List.{append-nil, append_assoc, drop-append-le, get_or_append_left}
+use Rattle.std.proofs.Common.{◌≡◌, ℕ, ◌+◌, ◌-◌, ◌≤◌, true, List, ◌++◌, length, drop, get_or, Result, Ok, Err, refl, sym, ap, ◌∙◌, inl, inr, arith, length-append}
+use Rattle.std.proofs.lemmas.List.{append_assoc, drop-append-le, get_or_append_left}
 use Rattle.std.proofs.lemmas.Bool.{cases_lt}
 use Rattle.std.specs.Prelude.{slice_index, IsErr}
 use Rattle.select_ports.specs.declared.outcome.Failed.{Failed}
 use Rattle.select_ports.specs.Stored.{Opened}
 use Rattle.line_window.specs.Starts.{starts_in}
-use Rattle.line_window.specs.Sliding.{View, place, left, Tells, Holds, IsSound, SameRules, Took}
+use Rattle.line_window.specs.Sliding.{View, place, left, Tells, Holds, SameRules, Took}
 use Rattle.line_window.specs.Steps.{Grows, IsClear, Measuring, Measures, ahead}
 use Rattle.line_window.specs.declared.window.Body.{Body}
 
@@ -51,17 +51,6 @@ grown_left object old new fits grows =
     ap (λ d. starts_in d object (place new) new.last) grows.rules.delimiter
     ∙ ap (λ q. starts_in old.delimiter object q new.last) (grown_place old new fits grows)
     ∙ ap (starts_in old.delimiter object (place old)) grows.rules.last
-
--- nothing was read yet
-pub grows_none : (v : View) → IsSound v → Grows v v
-grows_none v sound = record {
-  sound = sound;
-  rules = record { size = refl; last = refl; longest = refl; delimiter = refl };
-  lead = refl;
-  piece = [];
-  kept = sym (append-nil v.kept);
-  upto = omega arith;
-}
 
 pub grows_more : (a b c : View) → Grows a b → Grows b c → Grows a c
 grows_more a b c first second = record {

@@ -7,7 +7,7 @@ use Rattle.line_window.specs.declared.window.Sight.{Sight}
 use Rattle.line_window.specs.declared.window.Sight.TheVariants.{Start}
 use Rattle.line_window.specs.Bytes.{HasNone}
 use Rattle.line_window.specs.Steps.{Grows, Shows, Skips, ahead}
-use Rattle.line_window.proofs.ByteLaws.{clear_starts, start_first, start_behind, start_front, before-found, before-none, before-long}
+use Rattle.line_window.proofs.ByteLaws.{clear_starts, start_first, start_behind, before-found, before-none, before-long}
 
 take_none : (n : ℕ) → take {A = ℕ} n [] ≡ []
 take_none zero = refl
