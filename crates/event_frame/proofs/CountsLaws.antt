@@ -1,7 +1,7 @@
 -- Numbers and texts in front of others.
 use Rattle.std.proofs.Common.{◌≡◌, ℕ, ◌+◌, ◌-◌, ◌*◌, ◌^◌, ◌<◌, ◌≤◌, List, ◌∷◌, ◌++◌, length, get_or, take, drop, true, false, Option, None, MatchOption, refl, sym, ap, subst, ◌∙◌, arith, length-take, length-drop}
 use Rattle.std.proofs.Math.Seq.{take-append_seam}
-use Rattle.std.proofs.lemmas.List.{take-append-drop, take-append-le, take_all, get_or-drop, get_or_append_left, get_or-take}
+use Rattle.std.proofs.lemmas.List.{take-append-drop, take-append-le, take_all, get_or-drop, get_or-take}
 use Rattle.std.proofs.Math.Seq.{get_or-append_seam}
 use borrow.Author.Count.{below_more}
 use Rattle.std.proofs.lemmas.Bool.Decides.{nat_tests}
@@ -75,12 +75,6 @@ no_number-large bytes at number digit r d large digits more n is e =
     let value : digits_value 10 (take (at + 1) digits) ≡ number * 10 + digit =
     ap (digits_value 10) (sym front) ∙ value_more bytes at number digit r d in
     omega (arith, is.value, is.fits)
-
-pub no_number-none : (bytes : List ℕ) → is_ascii_digit (get_or bytes 0 0) ≡ false → HasNoNumber bytes
-no_number-none bytes other digits more n is e =
-    let first : get_or bytes 0 0 ≡ get_or digits 0 0 = ap (λ (l : List ℕ). get_or l 0 0) e ∙ get_or_append_left digits (60 ∷ more) 0 0 is.some in
-    let digit : is_ascii_digit (get_or bytes 0 0) ≡ true = ap is_ascii_digit first ∙ is.are_digits 0 is.some in
-    cc
 
 pub spells-number : (bytes rest : List ℕ) (at number : ℕ) → ReadUpTo bytes at number → (at ≡ 0 → ⊥)
     → is_ascii_digit (get_or bytes at 0) ≡ false → rest ≡ take (length bytes - at) (drop at bytes) → SpellsNumber bytes number rest

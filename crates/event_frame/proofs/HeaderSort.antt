@@ -14,8 +14,8 @@ use Rattle.std.specs.declared.cmp.Ordering.{Ordering}
 use Rattle.event_frame.specs.Message.{Header, print_header, print_headers}
 use Rattle.event_frame.specs.Event.{header}
 use Rattle.event_frame.specs.Reading.{IsHeader}
-use Rattle.event_frame.specs.HeaderFront.{HasNoHeader, SpellsHeader}
-use Rattle.event_frame.specs.HeaderPlaces.{CanBeWritten, places_from, ListsHeaders, ListsAllHeaders, by_name, name_at}
+use Rattle.event_frame.specs.HeaderFront.{SpellsHeader}
+use Rattle.event_frame.specs.HeaderPlaces.{CanBeWritten, places_from, ListsHeaders, by_name, name_at}
 use Rattle.event_frame.proofs.HeaderLaws.{flat}
 
 pub by_name-total : (bytes : List ℕ) → IsTotalOrder (by_name bytes)
@@ -51,11 +51,6 @@ places_from-append at (h ∷ headers) more =
 pub record Listing (bytes places rest : List ℕ) : Type 0 where
   pub lists : ListsHeaders bytes places rest
   pub few : 5 * length places + length rest ≤ length bytes
-
-pub listing-start : (bytes places : List ℕ) → places ≡ [] → Listing bytes places bytes
-listing-start bytes places none =
-    let size : length places ≡ 0 = ap length none in
-    record { lists = record { headers = []; can_be_written = tt; spelled = refl; places_are = none }; few = omega arith }
 
 -- a header takes five bytes or more
 pub header-size : (rest name value after : List ℕ) → SpellsHeader rest name value after → 5 + length after ≤ length rest
@@ -94,10 +89,6 @@ listing-more bytes places rest name value after places' listing found added =
       few = omega (arith, listing.few, header-size rest name value after found);
     }
 
-pub listing-end : (bytes places rest : List ℕ) → Listing bytes places rest → HasNoHeader rest → ListsAllHeaders bytes places (length bytes - length rest)
-listing-end bytes places rest listing nothing =
-    record { rest = rest; lists = listing.lists; last = nothing; end_is = omega (arith, listing.few) }
-
 -- ---- looking at neighbours
 
 -- the least repeat among the places before an index
@@ -108,9 +99,6 @@ pub record RepeatSoFar (bytes places : List ℕ) (end i least : ℕ) : Type 0 wh
       × (name_at bytes (get_or places k 0) ≡ name_at bytes (get_or places (k + 1) 0))
   pub is_least : (k : ℕ) → k + 1 < i → name_at bytes (get_or places k 0) ≡ name_at bytes (get_or places (k + 1) 0)
       → least ≤ get_or places (k + 1) 0
-
-pub repeat-start : (bytes places : List ℕ) (end : ℕ) → RepeatSoFar bytes places end 1 end
-repeat-start bytes places end = record { within = omega arith; is_one = λ h. absurd (omega arith); is_least = λ k h. absurd (omega arith) }
 
 -- the next place, whose left neighbour is at k
 repeat-more : (bytes places : List ℕ) (end k least least' : ℕ) → RepeatSoFar bytes places end (k + 1) least → k + 1 < length places → least' ≤ least

@@ -1,10 +1,14 @@
 -- A payload spells one count each, if it spells any.
-use Rattle.std.proofs.Common.{◌≡◌, ℕ, suc, ◌<◌, List, [], ◌∷◌, ◌++◌, length, get_or, Bool, true, false, cond, refl, sym, ap, ◌∙◌, arith, append_assoc}
+use Rattle.std.proofs.Common.{◌≡◌, ℕ, ◌+◌, suc, ◌<◌, List, [], ◌∷◌, ◌++◌, length, get_or, Bool, true, false, cond, eqb, refl, sym, ap, ◌∙◌, arith, append_assoc}
 use Rattle.std.specs.Prelude.{codes, ⊤}
 use Rattle.std.specs.Char.{is_ascii_digit}
 use Rattle.std.specs.Str.Parse.{digits_value}
+use Rattle.std.proofs.lemmas.Bool.{eqb-true}
 use Rattle.std.proofs.lemmas.List.{append_cancel_left}
+use Rattle.std.proofs.lemmas.List.Sums.{sum_by-append, sum_by-cons}
+use Rattle.std.specs.List.{sum_by}
 use Rattle.event_frame.specs.declared.counts.Counts.{Counts}
+use Rattle.event_frame.proofs.HeaderLaws.{head_of, tail_of}
 use Rattle.event_frame.specs.CountsText.{CountsText, IsNumber, SpellsCounts, ReadsCounts, declaration, opening, print_element, print_counts}
 
 -- ---- digits
@@ -23,20 +27,14 @@ no_digit d is digit = clash (ap is_ascii_digit is ∙ digit)
     clash : is_ascii_digit 60 ≡ true → ⊥
     clash e = cc
 
-head_is : (a b : ℕ) (xs ys : List ℕ) → a ∷ xs ≡ b ∷ ys → a ≡ b
-head_is a b xs ys e = cc
-
-tail_is : (a b : ℕ) (xs ys : List ℕ) → a ∷ xs ≡ b ∷ ys → xs ≡ ys
-tail_is a b xs ys e = cc
-
 -- digits up to a `<` are told by the text
 same_digits : (ds es xs ys : List ℕ) → AreDigits ds → AreDigits es → ds ++ 60 ∷ xs ≡ es ++ 60 ∷ ys → (ds ≡ es) × (xs ≡ ys)
-same_digits [] [] xs ys ads aes same = (refl, tail_is 60 60 xs ys same)
-same_digits [] (e ∷ es) xs ys ads aes same = absurd (no_digit e (head_is 60 e xs (es ++ 60 ∷ ys) same) aes.0)
-same_digits (d ∷ ds) [] xs ys ads aes same = absurd (no_digit d (sym (head_is d 60 (ds ++ 60 ∷ xs) ys same)) ads.0)
+same_digits [] [] xs ys ads aes same = (refl, tail_of 60 60 xs ys same)
+same_digits [] (e ∷ es) xs ys ads aes same = absurd (no_digit e (head_of 60 e xs (es ++ 60 ∷ ys) same) aes.0)
+same_digits (d ∷ ds) [] xs ys ads aes same = absurd (no_digit d (sym (head_of d 60 (ds ++ 60 ∷ xs) ys same)) ads.0)
 same_digits (d ∷ ds) (e ∷ es) xs ys ads aes same =
-    let rest = same_digits ds es xs ys ads.1 aes.1 (tail_is d e (ds ++ 60 ∷ xs) (es ++ 60 ∷ ys) same) in
-    (ap (λ n. n ∷ ds) (head_is d e (ds ++ 60 ∷ xs) (es ++ 60 ∷ ys) same) ∙ ap (λ l. e ∷ l) rest.0, rest.1)
+    let rest = same_digits ds es xs ys ads.1 aes.1 (tail_of d e (ds ++ 60 ∷ xs) (es ++ 60 ∷ ys) same) in
+    (ap (λ n. n ∷ ds) (head_of d e (ds ++ 60 ∷ xs) (es ++ 60 ∷ ys) same) ∙ ap (λ l. e ∷ l) rest.0, rest.1)
 
 -- a number with the same text behind it
 same_field : (ds es behind xs ys : List ℕ) (n m : ℕ) → IsNumber ds n → IsNumber es m → ds ++ ((60 ∷ behind) ++ xs) ≡ es ++ ((60 ∷ behind) ++ ys)
@@ -76,7 +74,7 @@ differs : (p u v w x y : List ℕ) → ((p ++ (32 ∷ u)) ++ v) ++ x ≡ ((p ++ 
 differs p u v w x y same =
     let left : ((p ++ (32 ∷ u)) ++ v) ++ x ≡ p ++ ((32 ∷ u) ++ (v ++ x)) = simp append_assoc in
     let right : ((p ++ []) ++ (62 ∷ w)) ++ y ≡ p ++ ([] ++ ((62 ∷ w) ++ y)) = simp append_assoc in
-    clash (head_is 32 62 (u ++ (v ++ x)) (w ++ y) (append_cancel_left p (32 ∷ (u ++ (v ++ x))) (62 ∷ (w ++ y)) (sym left ∙ same ∙ right)))
+    clash (head_of 32 62 (u ++ (v ++ x)) (w ++ y) (append_cancel_left p (32 ∷ (u ++ (v ++ x))) (62 ∷ (w ++ y)) (sym left ∙ same ∙ right)))
   where
     clash : ◌≡◌ {A = ℕ} 32 62 → ⊥
     clash e = cc
@@ -102,21 +100,107 @@ same_element name t t' c d spelled spelled' same =
     spelled.returned spelled'.returned (same_opening name t.namespaced t'.namespaced) same in
     record { scanned = numbers.first; processed = numbers.second; returned = numbers.third }
 
--- the second byte of an element is the first of its name, and that of a declaration a question mark
-second_byte : (n : ℕ) (name : List ℕ) (t : CountsText) → get_or (print_element (n ∷ name) t) 1 0 ≡ n
-unfolding print_element opening
-second_byte n name t = refl
+-- how many question marks stand in the bytes
+mark : ℕ → ℕ
+mark b = cond (eqb b 63) 1 0
 
-undeclared : (n : ℕ) (name more : List ℕ) (t : CountsText) → (n ≡ 63 → ⊥) → declaration ++ more ≡ print_element (n ∷ name) t → ⊥
-undeclared n name more t other same = other (sym (second_byte n name t) ∙ ap (λ (l : List ℕ). get_or l 1 0) (sym same))
+marks : List ℕ → ℕ
+marks bytes = sum_by mark bytes
 
-same_printed : (n : ℕ) (name : List ℕ) (b b' : Bool) (t t' : CountsText) → (n ≡ 63 → ⊥)
-    → cond b declaration [] ++ print_element (n ∷ name) t ≡ cond b' declaration [] ++ print_element (n ∷ name) t'
-    → print_element (n ∷ name) t ≡ print_element (n ∷ name) t'
-same_printed n name true true t t' other same = append_cancel_left declaration (print_element (n ∷ name) t) (print_element (n ∷ name) t') same
-same_printed n name true false t t' other same = absurd (undeclared n name (print_element (n ∷ name) t) t' other same)
-same_printed n name false true t t' other same = absurd (undeclared n name (print_element (n ∷ name) t') t other (sym same))
-same_printed n name false false t t' other same = same
+marks-append : (xs ys : List ℕ) → marks (xs ++ ys) ≡ marks xs + marks ys
+unfolding marks
+marks-append xs ys = sum_by-append mark xs ys
+
+marks-more : (b : ℕ) (bytes : List ℕ) → marks (b ∷ bytes) ≡ mark b + marks bytes
+unfolding marks
+marks-more b bytes = sum_by-cons mark b bytes
+
+-- none among digits
+mark-digit : (d : ℕ) → is_ascii_digit d ≡ true → mark d ≡ 0
+unfolding mark
+mark-digit d digit = other (eqb d 63) refl
+  where
+    clash : is_ascii_digit 63 ≡ true → ⊥
+    clash e = cc
+
+    other : (b : Bool) → eqb d 63 ≡ b → ◌≡◌ {A = ℕ} (cond b 1 0) 0
+    other false e = refl
+    other true e = absurd (clash (ap is_ascii_digit (sym (eqb-true d 63 e)) ∙ digit))
+
+marks-digits : (digits : List ℕ) → AreDigits digits → marks digits ≡ 0
+unfolding marks
+marks-digits [] are = refl
+marks-digits (d ∷ digits) are = omega (arith, marks-more d digits, mark-digit d are.0, marks-digits digits are.1)
+
+marks-number : (digits : List ℕ) (n : ℕ) → IsNumber digits n → marks digits ≡ 0
+marks-number digits n is = marks-digits digits (are_digits digits is.are_digits)
+
+marks-opening : (name : List ℕ) (b : Bool) → marks (opening name b) ≡ marks name
+unfolding opening marks mark
+marks-opening name b =
+    let none : marks (cond b (codes " xmlns=\"\"") []) ≡ 0 = of b in
+    omega (
+      arith,
+      marks-append (codes "<" ++ name ++ cond b (codes " xmlns=\"\"") []) (codes "><BytesScanned>"),
+      marks-append (codes "<" ++ name) (cond b (codes " xmlns=\"\"") []),
+      marks-append (codes "<") name,
+    )
+  where
+    of : (b : Bool) → marks (cond b (codes " xmlns=\"\"") []) ≡ 0
+    of true = refl
+    of false = refl
+
+marks-parts : (a b c d e f g h i : List ℕ) → marks ((((((((a ++ b) ++ c) ++ d) ++ e) ++ f) ++ g) ++ h) ++ i)
+    ≡ marks a + marks b + marks c + marks d + marks e + marks f + marks g + marks h + marks i
+marks-parts a b c d e f g h i = simp marks-append
+
+-- the texts between the numbers have none
+record NoMarks : Type 0 where
+  pub behind_scanned : marks (codes "</BytesScanned><BytesProcessed>") ≡ 0
+  pub behind_processed : marks (codes "</BytesProcessed><BytesReturned>") ≡ 0
+  pub behind_returned : marks (codes "</BytesReturned></") ≡ 0
+  pub at_end : marks (codes ">") ≡ 0
+
+no_marks : NoMarks
+unfolding marks mark
+no_marks = record { behind_scanned = refl; behind_processed = refl; behind_returned = refl; at_end = refl }
+
+-- an element has those of its name, twice
+marks-element : (name : List ℕ) (t : CountsText) (c : Counts) → SpellsCounts t c → marks (print_element name t) ≡ marks name + marks name
+unfolding print_element
+marks-element name t c spelled =
+    marks-parts (opening name t.namespaced) t.scanned (codes "</BytesScanned><BytesProcessed>") t.processed (codes "</BytesProcessed><BytesReturned>")
+    t.returned (codes "</BytesReturned></") name (codes ">")
+    ∙ omega (
+      arith,
+      no_marks.behind_scanned,
+      no_marks.behind_processed,
+      no_marks.behind_returned,
+      no_marks.at_end,
+      marks-opening name t.namespaced,
+      marks-number t.scanned c.scanned spelled.scanned,
+      marks-number t.processed c.processed spelled.processed,
+      marks-number t.returned c.returned spelled.returned,
+    )
+
+marks-declaration : marks declaration ≡ 2
+unfolding marks mark
+marks-declaration = refl
+
+-- a declaration has two more, so that no element is one with an element of the same name behind it
+undeclared : (name : List ℕ) (t t' : CountsText) (c d : Counts) → SpellsCounts t c → SpellsCounts t' d
+    → declaration ++ print_element name t ≡ print_element name t' → ⊥
+undeclared name t t' c d spelled spelled' same =
+    let both : marks (declaration ++ print_element name t) ≡ marks (print_element name t') = ap marks same in
+    omega (arith, marks-append declaration (print_element name t), marks-declaration, marks-element name t c spelled, marks-element name t' d spelled')
+
+same_printed : (name : List ℕ) (b b' : Bool) (t t' : CountsText) (c d : Counts) → SpellsCounts t c → SpellsCounts t' d
+    → cond b declaration [] ++ print_element name t ≡ cond b' declaration [] ++ print_element name t'
+    → print_element name t ≡ print_element name t'
+same_printed name true true t t' c d spelled spelled' same = append_cancel_left declaration (print_element name t) (print_element name t') same
+same_printed name true false t t' c d spelled spelled' same = absurd (undeclared name t t' c d spelled spelled' same)
+same_printed name false true t t' c d spelled spelled' same = absurd (undeclared name t' t d c spelled' spelled (sym same))
+same_printed name false false t t' c d spelled spelled' same = same
 
 counts : ℕ → ℕ → ℕ → Counts
 counts scanned processed returned = record { scanned = scanned; processed = processed; returned = returned }
@@ -127,10 +211,9 @@ counts_are c d same =
     ap (λ n. counts n c.processed c.returned) same.scanned ∙ ap (λ n. counts d.scanned n c.returned) same.processed
     ∙ ap (λ n. counts d.scanned d.processed n) same.returned
 
--- a payload of an event whose name doesn't begin with a question mark
-pub one_counts : (n : ℕ) (name payload : List ℕ) (c d : Counts) → (n ≡ 63 → ⊥) → ReadsCounts (n ∷ name) payload c → ReadsCounts (n ∷ name) payload d → c ≡ d
+pub one_counts : (name payload : List ℕ) (c d : Counts) → ReadsCounts name payload c → ReadsCounts name payload d → c ≡ d
 unfolding print_counts
-one_counts n name payload c d other first second =
+one_counts name payload c d first second =
     counts_are c d
-    (same_element (n ∷ name) first.text second.text c d first.spelled second.spelled
-    (same_printed n name first.text.declared second.text.declared first.text second.text other (sym first.printed ∙ second.printed)))
+    (same_element name first.text second.text c d first.spelled second.spelled
+    (same_printed name first.text.declared second.text.declared first.text second.text c d first.spelled second.spelled (sym first.printed ∙ second.printed)))

@@ -1,6 +1,8 @@
 -- A run of `feed` and `take` reads the stream.
 use Rattle.std.proofs.Common.{◌≡◌, ℕ, ◌+◌, Bool, true, false, List, [], ◌∷◌, ◌++◌, length, take, drop, Option, None, Some, Ok, Err, refl, sym, ap, ◌∙◌, subst, inl, arith, append_assoc, append-nil, length-append, length-take, take-append-drop}
+use Rattle.std.proofs.Math.Seq.{take-append_seam}
 use Rattle.event_frame.specs.Event.{Event}
+use Rattle.event_frame.specs.Reading.{IsFrame}
 use Rattle.event_frame.specs.Reader.{ReaderState, fresh_reader, IsSound, Feeds, released}
 use Rattle.event_frame.specs.Stream.{SpellsEvents, IsSameReading}
 use Rattle.event_frame.specs.Runs.{Call, fed, took, IsRun, taken_bytes, lent_events, ReadsSoFar, ShowsThere}
@@ -137,14 +139,41 @@ shows_there calls piece fault old new run well feeds =
       placed = omega (arith, shown.at, so_far.counted, length-append old.kept piece, length-append (taken_bytes calls) piece);
     }
 
+-- a whole frame behind frames
+spells_last : (bytes : List ℕ) (events : List Event) (rest : List ℕ) (event : Event) → SpellsEvents bytes events rest → IsFrame rest event
+    → SpellsEvents bytes (events ++ event ∷ []) []
+spells_last bytes [] rest event spelled is_frame = (
+  [],
+  record { frame = rest; joined = spelled ∙ sym (append-nil rest); is_frame = is_frame },
+  refl,
+)
+spells_last bytes (e ∷ events) rest event spelled is_frame = (spelled.0, spelled.1, spells_last spelled.0 events rest event spelled.2 is_frame)
+
+same_but_last : (es ds : List Event) (e d : Event) → es ++ e ∷ [] ≡ ds ++ d ∷ [] → es ≡ ds
+same_but_last es ds e d same =
+    let whole : length (es ++ e ∷ []) ≡ length (ds ++ d ∷ []) = ap length same in
+    let size : length es ≡ length ds = omega (arith, length-append es (e ∷ []), length-append ds (d ∷ [])) in
+    sym (take-append_seam es (e ∷ [])) ∙ ap (take (length es)) same ∙ ap (λ n. take n (ds ++ d ∷ [])) size ∙ take-append_seam ds (d ∷ [])
+
 pub same_events : (calls others : List Call) (new other : ReaderState) → IsRun fresh_reader calls new → IsRun fresh_reader others other
-    → new.fault ≡ None → other.fault ≡ None → new.held ≡ false → other.held ≡ false → taken_bytes calls ≡ taken_bytes others
+    → new.fault ≡ None → other.fault ≡ None → new.held ≡ other.held → taken_bytes calls ≡ taken_bytes others
     → lent_events calls ≡ lent_events others
-same_events calls others new other run its well its_well free its_free same =
-    let a = reads_so_far calls new run well in
-    let b = reads_so_far others other its its_well in
-    let one : IsSameReading (lent_events calls) (lent_events others) new.kept other.kept None None =
-    same_reading (taken_bytes calls) new.kept other.kept (lent_events calls) (lent_events others) None None
-    a.spelled (a.begun free)
-    (subst (λ (l : List ℕ). SpellsEvents l (lent_events others) other.kept) (sym same) b.spelled) (b.begun its_free) in
-    one.same_events
+same_events calls others new other run its well its_well alike same =
+    by_held (reads_so_far calls new run well) (reads_so_far others other its its_well) new.held refl
+  where
+    by_held : ReadsSoFar calls new → ReadsSoFar others other → (held : Bool) → new.held ≡ held → lent_events calls ≡ lent_events others
+    by_held a b false free =
+        let one : IsSameReading (lent_events calls) (lent_events others) new.kept other.kept None None =
+        same_reading (taken_bytes calls) new.kept other.kept (lent_events calls) (lent_events others) None None
+        a.spelled (a.begun free)
+        (subst (λ (l : List ℕ). SpellsEvents l (lent_events others) other.kept) (sym same) b.spelled) (b.begun (sym alike ∙ free)) in
+        one.same_events
+    by_held a b true full =
+        let e = a.whole full in
+        let d = b.whole (sym alike ∙ full) in
+        let one : IsSameReading (lent_events calls ++ e.0 ∷ []) (lent_events others ++ d.0 ∷ []) [] [] None None =
+        same_reading (taken_bytes calls) [] [] (lent_events calls ++ e.0 ∷ []) (lent_events others ++ d.0 ∷ []) None None
+        (spells_last (taken_bytes calls) (lent_events calls) new.kept e.0 a.spelled e.1) (inl (omega arith))
+        (spells_last (taken_bytes calls) (lent_events others) other.kept d.0
+        (subst (λ (l : List ℕ). SpellsEvents l (lent_events others) other.kept) (sym same) b.spelled) d.1) (inl (omega arith)) in
+        same_but_last (lent_events calls) (lent_events others) e.0 d.0 one.same_events

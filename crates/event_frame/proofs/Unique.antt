@@ -396,6 +396,16 @@ no_frame bytes (Some f) event rest x y =
     let one = one_front bytes y.frame rest x.front x.more (inl event) (inr f) y.joined x.joined y.is_frame x.faulty in
     apart event f one.shown
 
+-- no frame is a front of another
+pub nothing_behind : (frame longer more : List ℕ) (event other : Event) → IsFrame frame event → IsFrame longer other → longer ≡ frame ++ more → more ≡ []
+nothing_behind frame longer more event other x y joined =
+    (one_front longer frame more longer [] (inl event) (inl other) joined (sym (append-nil longer)) x y).behind
+
+pub one_event : (frame : List ℕ) (event other : Event) → IsFrame frame event → IsFrame frame other → event ≡ other
+unfolding event_in
+one_event frame event other x y =
+    ap (event_in event) (one_front frame frame [] frame [] (inl event) (inl other) (sym (append-nil frame)) (sym (append-nil frame)) x y).shown
+
 pub same_reading : (bytes rest rest' : List ℕ) (es ds : List Event) (a b : Option (FrameFaultCode × ℕ))
     → SpellsEvents bytes es rest → EndsIn rest a → SpellsEvents bytes ds rest' → EndsIn rest' b → IsSameReading es ds rest rest' a b
 unfolding event_in

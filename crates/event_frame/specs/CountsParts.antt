@@ -50,6 +50,7 @@ pub record ReadsElement (name bytes : List ℕ) (c : Counts) : Type 0 where
   pub printed : bytes ≡ print_element name text
   pub spelled : SpellsCounts text c
 
+-- the bytes are no element of counts
 abbrev pub HasNoElement : List ℕ → List ℕ → Type 0
 HasNoElement name bytes = (c : Counts) → ReadsElement name bytes c → ⊥
 

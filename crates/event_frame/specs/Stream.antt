@@ -27,8 +27,8 @@ abbrev pub SpellsEvents : List ℕ → List Event → List ℕ → Type 0
 SpellsEvents bytes [] rest = bytes ≡ rest
 SpellsEvents bytes (event ∷ events) rest = (behind : List ℕ) × HasFrame bytes event behind × SpellsEvents behind events rest
 
--- the parts of an event fit the frame that is written for it: a payload of at most 65,536 bytes, and
--- 256 bytes of a code and of a message
+-- the parts of an event fit the frame that is written for it: a payload has at most 65,536 bytes, a
+-- code and a message at most 256
 abbrev pub PartsFit : Event → Type 0
 PartsFit (records output) = length output ≤ 65536
 PartsFit cont = ⊤

@@ -8,7 +8,8 @@ ghost use Rattle.event_frame.specs.Shown.{event_shown};
 
 use crate::headers::value;
 
-/// An event that was read, lent from the frame that it came in.
+/// An event of a SelectObjectContent reply (Amazon S3 API Reference) that was read, lent from the frame
+/// that it came in.
 #[derive(Clone, Copy, Debug, PartialEq, Eq)]
 pub enum EventView<'r> {
     /// Output of the query.

@@ -23,6 +23,7 @@ pub use event::EventView;
 pub use fault::{FrameFault, FrameFaultCode};
 pub use reader::FrameReader;
 pub use stream::{
-    counts_have_one_reading, runs_read_the_stream, stream_has_one_reading, written_frames_are_read,
+    counts_have_one_reading, no_frame_begins_another, runs_read_the_stream, stream_has_one_reading,
+    written_frames_are_read,
 };
 pub use writer::FrameWriter;

@@ -13,8 +13,9 @@ use crate::intake::{Step, take_in};
 use std::alloc::{AllocError, Global};
 use std::marker::Model;
 
-/// Reads events from the bytes of their frames. All of its memory, 16 MiB for the longest frame and
-/// 12.8 MiB for the places of its headers, is taken by [`FrameReader::make`].
+/// Reads events from the bytes of their frames, which are messages of the AWS event stream encoding.
+/// All of its memory, 16 MiB for the longest frame and 12.8 MiB for the places of its headers, is taken
+/// by [`FrameReader::make`].
 #[derive(Drop)]
 pub struct FrameReader {
     buffer: Vec<u8>,

@@ -1,6 +1,6 @@
 // The laws of streams, and of the counts in them.
 
-ghost use Rattle.std.specs.Prelude.{◌≡◌, ℕ, false, List, [], ◌∷◌, Option, None, Err};
+ghost use Rattle.std.specs.Prelude.{◌≡◌, ℕ, List, [], ◌++◌, Option, None, Err};
 ghost use Rattle.event_frame.specs.CountsText.{CountsFit, ReadsCounts, counts_text, progress_of, stats_of};
 ghost use Rattle.event_frame.specs.Event.{Event, frame_of};
 ghost use Rattle.event_frame.specs.Reading.{IsFrame};
@@ -11,8 +11,15 @@ ghost use Rattle.event_frame.specs.declared.counts.Counts.{Counts};
 ghost use Rattle.event_frame.specs.declared.fault.FrameFault.{FrameFault};
 ghost use Rattle.event_frame.specs.declared.fault.FrameFaultCode.{FrameFaultCode};
 
+/// No frame is a front of a longer one, and no frame is one of two events.
+pub fn no_frame_begins_another()
+    ensures front { (frame longer more : List ℕ) (event other : Event)
+        → IsFrame frame event → IsFrame longer other → longer ≡ frame ++ more → more ≡ [] }
+    ensures event { (frame : List ℕ) (event other : Event) → IsFrame frame event → IsFrame frame other → event ≡ other }
+{}
+
 /// The bytes of a stream spell one list of events and end in one way, whatever the pieces were in
-/// which they came: no frame is a front of another, and no two events have one frame.
+/// which they came.
 pub fn stream_has_one_reading()
     ensures { (bytes rest other_rest : List ℕ) (events other_events : List Event)
         (fault other_fault : Option (FrameFaultCode × ℕ))
@@ -42,13 +49,12 @@ pub fn runs_read_the_stream()
     ensures faulty { (calls : List Call) (piece : List ℕ) (fault : FrameFault) (old new : ReaderState)
         → IsRun fresh_reader calls old → old.fault ≡ None → Feeds old piece (Err fault) new → ShowsThere calls piece fault }
     ensures alone { (calls others : List Call) (new other : ReaderState) → IsRun fresh_reader calls new → IsRun fresh_reader others other
-        → new.fault ≡ None → other.fault ≡ None → new.held ≡ false → other.held ≡ false
+        → new.fault ≡ None → other.fault ≡ None → new.held ≡ other.held
         → taken_bytes calls ≡ taken_bytes others → lent_events calls ≡ lent_events others }
 {}
 
-/// The payload of a Progress or Stats event spells one set of counts, if it spells any. No event's name
-/// begins with `?`, which begins the declaration.
+/// A payload spells one set of counts for an event's name, if it spells any.
 pub fn counts_have_one_reading()
-    ensures { (first : ℕ) (name payload : List ℕ) (counts other : Counts) → (first ≡ 63 → ⊥)
-        → ReadsCounts (first ∷ name) payload counts → ReadsCounts (first ∷ name) payload other → counts ≡ other }
+    ensures { (name payload : List ℕ) (counts other : Counts)
+        → ReadsCounts name payload counts → ReadsCounts name payload other → counts ≡ other }
 {}

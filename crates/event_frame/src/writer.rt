@@ -29,7 +29,8 @@ const FRAME_ROOM: usize = 70_000;
 
 const PART_ROOM: usize = 700;
 
-/// Writes events as frames. All of its memory is taken by [`FrameWriter::make`].
+/// Writes events as frames. All of its memory is taken by [`FrameWriter::make`]. A write fails only where
+/// the sink failed, and the sink then has a front of the frame.
 #[derive(Drop)]
 pub struct FrameWriter {
     frame: Vec<u8>,

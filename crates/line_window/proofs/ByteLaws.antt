@@ -42,9 +42,6 @@ start_behind c object p within e =
     let ends : ends_at (c ∷ []) object (suc p) ≡ true = ends_behind c object p true (omega arith) (eq-eqb (get_or object p 0) c e) in
     rw on (and_from _ _ (lt-ltb (suc p) (length object) (omega arith)) (or_right _ _ ends))
 
-pub start_front : (d object : List ℕ) → 0 < length object → is_start d object 0 ≡ true
-start_front d object some = and_from _ _ (lt-ltb 0 (length object) some) refl
-
 -- no line starts behind bytes that are none of the delimiter
 pub no_starts : (c : ℕ) (object : List ℕ) (p k : ℕ) → ((q : ℕ) → p ≤ q → q < p + k → get_or object q 0 ≢ c)
     → starts (c ∷ []) object (suc p) k ≡ []

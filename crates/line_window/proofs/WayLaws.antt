@@ -1,12 +1,12 @@
 -- The loops of a window: the way to the next start, and to the end of a line.
-use Rattle.std.proofs.Common.{◌≡◌, ℕ, ◌+◌, ◌-◌, ◌≤◌, true, false, List, [], ◌++◌, length, drop, get_or, Result, Ok, Err, refl, sym, ap, ◌∙◌, inl, inr, arith, length-append}
-use Rattle.std.proofs.lemmas.List.{append-nil, append_assoc, drop-append-le, get_or_append_left}
+use Rattle.std.proofs.Common.{◌≡◌, ℕ, ◌+◌, ◌-◌, ◌≤◌, true, List, ◌++◌, length, drop, get_or, Result, Ok, Err, refl, sym, ap, ◌∙◌, inl, inr, arith, length-append}
+use Rattle.std.proofs.lemmas.List.{append_assoc, drop-append-le, get_or_append_left}
 use Rattle.std.proofs.lemmas.Bool.{cases_lt}
 use Rattle.std.specs.Prelude.{slice_index, IsErr}
 use Rattle.select_ports.specs.declared.outcome.Failed.{Failed}
 use Rattle.select_ports.specs.Stored.{Opened}
 use Rattle.line_window.specs.Starts.{starts_in}
-use Rattle.line_window.specs.Sliding.{View, place, left, Tells, Holds, IsSound, SameRules, Took}
+use Rattle.line_window.specs.Sliding.{View, place, left, Tells, Holds, SameRules, Took}
 use Rattle.line_window.specs.Steps.{Grows, IsClear, Measuring, Measures, ahead}
 use Rattle.line_window.specs.declared.window.Body.{Body}
 
@@ -52,17 +52,6 @@ grown_left object old new fits grows =
     ∙ ap (λ q. starts_in old.delimiter object q new.last) (grown_place old new fits grows)
     ∙ ap (starts_in old.delimiter object (place old)) grows.rules.last
 
--- nothing was read yet
-pub grows_none : (v : View) → IsSound v → Grows v v
-grows_none v sound = record {
-  sound = sound;
-  rules = record { size = refl; last = refl; longest = refl; delimiter = refl };
-  lead = refl;
-  piece = [];
-  kept = sym (append-nil v.kept);
-  upto = omega arith;
-}
-
 pub grows_more : (a b c : View) → Grows a b → Grows b c → Grows a c
 grows_more a b c first second = record {
   sound = second.sound;
@@ -77,16 +66,6 @@ grows_more a b c first second = record {
 ahead_grown : (old new : View) → old.lead ≤ length old.kept → (grows : Grows old new) → ahead new ≡ ahead old ++ grows.piece
 ahead_grown old new led grows =
     ap (λ n. drop n new.kept) grows.lead ∙ ap (drop old.lead) grows.kept ∙ drop-append-le old.lead old.kept grows.piece led
-
-pub measuring_none : (opened : Opened) (v : View) (n : ℕ) → IsSound v → v.failed ≡ false → Measuring opened v v 0 n n
-measuring_none opened v n sound works = record {
-  grows = grows_none v sound;
-  taken = took_none _ n (omega arith);
-  failed = works;
-  within = omega arith;
-  clear = λ k lt. absurd (omega arith);
-  told = λ object tells h. h;
-}
 
 pub measuring_more : (opened : Opened) (old mid new : View) (scanned n before between after : ℕ) → Measuring opened old mid scanned before between
     → mid.lead ≤ length mid.kept → n ≡ length (ahead mid) → IsClear mid n

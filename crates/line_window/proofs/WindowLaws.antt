@@ -7,7 +7,7 @@ use Rattle.line_window.specs.declared.window.Sight.{Sight}
 use Rattle.line_window.specs.declared.window.Sight.TheVariants.{Start}
 use Rattle.line_window.specs.Bytes.{HasNone}
 use Rattle.line_window.specs.Steps.{Grows, Shows, Skips, ahead}
-use Rattle.line_window.proofs.ByteLaws.{clear_starts, start_first, start_behind, start_front, before-found, before-none, before-long}
+use Rattle.line_window.proofs.ByteLaws.{clear_starts, start_first, start_behind, before-found, before-none, before-long}
 
 take_none : (n : ℕ) → take {A = ℕ} n [] ≡ []
 take_none zero = refl
@@ -128,13 +128,6 @@ ready_behind object c v delimiter lead some here within before holds =
     let at : kept_from v + 1 ≡ place v = ap (λ n. kept_from v + n) (sym lead) in
     start_first v.delimiter object (place v) v.last
     (ap (λ d. is_start d object (place v)) delimiter ∙ ap (is_start (c ∷ []) object) (sym at) ∙ starts_here) within
-
--- the object's front is a start
-pub ready_front : (object : List ℕ) (v : View) → place v ≡ 0 → v.last < v.size → length object ≡ v.size
-    → left object v ≡ place v ∷ starts_in v.delimiter object (place v + 1) v.last
-ready_front object v front before size =
-    start_first v.delimiter object (place v) v.last
-    (ap (is_start v.delimiter object) front ∙ start_front v.delimiter object (omega arith)) (omega arith)
 
 -- a body that a delimiter ends
 pub lent_ended : (object : List ℕ) (c n : ℕ) (v : View) → Holds object v → v.lead ≤ length v.kept → length v.kept ≤ v.upto → v.upto ≤ v.size

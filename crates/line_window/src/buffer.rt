@@ -9,10 +9,10 @@ use memchr::memchr;
 use select_ports::{Failed, Store};
 
 /// The most bytes of one read.
-pub const PIECE: usize = 65_536;
+pub(crate) const PIECE: usize = 65_536;
 
 /// Moves the bytes from `start` to `end` to the buffer's front where less than a piece's room is behind them, and tells where they start.
-pub fn make_room(buffer: &mut [u8], start: usize, end: usize) -> usize
+pub(crate) fn make_room(buffer: &mut [u8], start: usize, end: usize) -> usize
     requires ordered { start ≤ end }
     requires within { end ≤ length buffer.old }
     requires room { end - start + 65536 ≤ length buffer.old }
@@ -28,7 +28,7 @@ pub fn make_room(buffer: &mut [u8], start: usize, end: usize) -> usize
 }
 
 /// Reads a piece of the open object into the buffer from `end` on, and tells how many bytes: none past the object's size.
-pub fn read_piece<S: Store>(
+pub(crate) fn read_piece<S: Store>(
     store: &mut S,
     at: u64,
     size: u64,
@@ -58,7 +58,7 @@ pub fn read_piece<S: Store>(
 }
 
 /// The first place of a byte. On the way to the next line that is mostly place 0, which is looked at before a search is begun.
-pub fn find(byte: u8, bytes: &[u8]) -> Option<usize>
+pub(crate) fn find(byte: u8, bytes: &[u8]) -> Option<usize>
     ensures { MatchOption result (HasNone byte bytes.now (length bytes.now)) (IsFirstAt byte bytes.now) }
 {
     if bytes.first() == Some(&byte) {

@@ -23,7 +23,7 @@ pub enum Line<'w> {
 }
 
 /// The content of the line at `start` with this body.
-pub fn content(start: u64, body: &[u8]) -> &[u8]
+pub(crate) fn content(start: u64, body: &[u8]) -> &[u8]
     ensures { result.now ≡ (if start == 0 then without_mark body.now else body.now) }
 {
     if start != 0 {

@@ -105,7 +105,7 @@ impl Window {
         Ok(())
     }
 
-    /// The next line that starts in the range.
+    /// The next line that starts in the range. Where a read fails, this call and each later one fail, until `seek` is called.
     pub fn next<S: Store>(&mut self, store: &mut S) -> Result<Line<'_>, Failed>
         requires { IsOpen (S.current store.old) self.old.size }
         ensures* after { sem 𝓛 (Rests the_row self.entry (λ new. Turns (S.current store.old) self.old new result (S.taken store.old) (S.taken store.new))) }

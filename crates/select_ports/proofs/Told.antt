@@ -1,9 +1,9 @@
 -- What the calls of a sink, one after another, add to the bytes that are told.
-use Rattle.std.proofs.Common.{◌≡◌, ℕ, zero, suc, ◌+◌, ◌-◌, ◌<◌, ◌≤◌, List, ◌++◌, Option, None, Some, length, take, drop, refl, sym, ap, ◌∙◌, subst, arith, take-append-drop, append_assoc, []}
+use Rattle.std.proofs.Common.{◌≡◌, ℕ, zero, suc, ◌+◌, ◌-◌, ◌<◌, ◌≤◌, List, ◌++◌, Option, None, Some, length, take, drop, refl, sym, ap, ◌∙◌, subst, arith, take-append-drop, append_assoc}
 use Rattle.std.proofs.lemmas.List.{take-take, drop-drop}
 use Rattle.std.proofs.Math.Seq.{take-add}
 use Rattle.std.specs.Io.KnownBytes.{Appends, Keeps}
-use Rattle.std.proofs.KnownBytes.{Appends-trans, Appends-nil}
+use Rattle.std.proofs.KnownBytes.{Appends-trans}
 use Rattle.select_ports.specs.Streams.{IsFront, AppendsFront}
 
 pub take-piece : (bytes : List ℕ) (done n : ℕ) → n ≤ length bytes - done
@@ -59,12 +59,4 @@ appends-front-after a b c first second more added front = record {
   front = first ++ front.front;
   is_front = front-joined first second front.front more front.is_front;
   appended = Appends-trans a b c first front.front added front.appended;
-}
-
--- nothing is a front of anything
-pub appends-front-none : (a b : Option (List ℕ)) (bytes : List ℕ) → Keeps a b → AppendsFront a b bytes
-appends-front-none a b bytes kept = record {
-  front = [];
-  is_front = record { rest = bytes; joined = refl };
-  appended = appends-kept a a b [] (Appends-nil a) kept;
 }

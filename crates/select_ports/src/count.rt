@@ -5,7 +5,7 @@ ghost use Rattle.select_ports.specs.Causes.{RoseBy};
 use crate::Failed;
 
 /// Counts a fault.
-pub fn fault(faults: &mut u64) -> Failed
+pub(crate) fn fault(faults: &mut u64) -> Failed
     ensures rose { RoseBy 1 faults.old faults.new }
     ensures kept { faults.old ≤ faults.new }
 {

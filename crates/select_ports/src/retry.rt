@@ -6,7 +6,7 @@ use std::io;
 use std::io::{ErrorKind, Read, Write};
 
 /// One read.
-pub fn read_once<R: Read>(reader: &mut R, buf: &mut [u8]) -> io::Result<usize>
+pub(crate) fn read_once<R: Read>(reader: &mut R, buf: &mut [u8]) -> io::Result<usize>
     ensures within { IfOk result (λ n. n ≤ length buf.old) }
     ensures bytes { ReadConsumes (R.remaining reader.old) (R.remaining reader.new) result buf.new }
 {
@@ -20,7 +20,7 @@ pub fn read_once<R: Read>(reader: &mut R, buf: &mut [u8]) -> io::Result<usize>
 }
 
 /// One write.
-pub fn write_once<W: Write>(writer: &mut W, buf: &[u8]) -> io::Result<usize>
+pub(crate) fn write_once<W: Write>(writer: &mut W, buf: &[u8]) -> io::Result<usize>
     ensures within { IfOk result (λ n. n ≤ length buf.now) }
     ensures bytes { WriteAppends (W.contents writer.old) (W.contents writer.new) result buf.now }
 {

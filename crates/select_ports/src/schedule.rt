@@ -6,7 +6,7 @@ use crate::Failed;
 use std::marker::Model;
 
 #[derive(Drop)]
-pub struct Schedule {
+pub(crate) struct Schedule {
     lengths: Vec<usize>,
     fails: Vec<u64>,
     calls: u64,
@@ -25,7 +25,7 @@ impl Model for Schedule {
 }
 
 impl Schedule {
-    pub fn new(lengths: Vec<usize>, fails: Vec<u64>) -> Schedule
+    pub(crate) fn new(lengths: Vec<usize>, fails: Vec<u64>) -> Schedule
         requires { All (λ n. 0 < n) lengths.items }
         ensures { result ≡ fresh lengths.items fails.items }
     {
@@ -38,7 +38,7 @@ impl Schedule {
     }
 
     /// Counts a call, and fails where it is one of those that fail.
-    pub fn call(&mut self) -> Result<(), Failed>
+    pub(crate) fn call(&mut self) -> Result<(), Failed>
         ensures after { self.new ≡ called self.old }
         ensures fails { IsErr result ↔ IsToFail self.old }
     {
@@ -51,7 +51,7 @@ impl Schedule {
     }
 
     /// How many of so many bytes the call may hand out or take.
-    pub fn portion(&self, fits: usize) -> usize
+    pub(crate) fn portion(&self, fits: usize) -> usize
         ensures value { result ≡ portion self.now fits }
         ensures within { result ≤ fits }
         ensures some { 0 < fits → 0 < result }
@@ -64,7 +64,7 @@ impl Schedule {
     }
 
     /// Counts a turn: the call handed out or took bytes.
-    pub fn turn(&mut self)
+    pub(crate) fn turn(&mut self)
         ensures { self.new ≡ record self.old { turns = next_count self.old.turns } }
     {
         self.turns = self.turns.saturating_add(1);

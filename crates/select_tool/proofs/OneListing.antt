@@ -18,30 +18,28 @@ use Rattle.select_tool.proofs.ListingLaws.{OneReading}
 
 -- a payload spells one set of counts
 abbrev pub OneCounts : Type 0
-OneCounts = (first : ℕ) (name payload : List ℕ) (counts other : Counts) → (first ≡ 63 → ⊥)
-    → ReadsCounts (first ∷ name) payload counts → ReadsCounts (first ∷ name) payload other → counts ≡ other
+OneCounts = (name payload : List ℕ) (counts other : Counts) → ReadsCounts name payload counts → ReadsCounts name payload other → counts ≡ other
 
 -- ---- one line
 
-same_read : OneCounts → (n : ℕ) (name payload : List ℕ) (a b : Option Counts) → (n ≡ 63 → ⊥)
-    → MatchOption a (HasNoCounts (n ∷ name) payload) (ReadsCounts (n ∷ name) payload)
-    → MatchOption b (HasNoCounts (n ∷ name) payload) (ReadsCounts (n ∷ name) payload) → a ≡ b
-same_read law n name payload None None other first second = refl
-same_read law n name payload None (Some d) other first second = absurd (first d second)
-same_read law n name payload (Some c) None other first second = absurd (second c first)
-same_read law n name payload (Some c) (Some d) other first second = ap (λ x. Some x) (law n name payload c d other first second)
+same_read : OneCounts → (name payload : List ℕ) (a b : Option Counts)
+    → MatchOption a (HasNoCounts name payload) (ReadsCounts name payload) → MatchOption b (HasNoCounts name payload) (ReadsCounts name payload) → a ≡ b
+same_read law name payload None None first second = refl
+same_read law name payload None (Some d) first second = absurd (first d second)
+same_read law name payload (Some c) None first second = absurd (second c first)
+same_read law name payload (Some c) (Some d) first second = ap (λ x. Some x) (law name payload c d first second)
 
-same_counts_line : OneCounts → (n : ℕ) (name payload a b : List ℕ) → (n ≡ 63 → ⊥) → IsCountsLine (n ∷ name) payload a → IsCountsLine (n ∷ name) payload b → a ≡ b
-same_counts_line law n name payload a b other first second =
+same_counts_line : OneCounts → (name payload a b : List ℕ) → IsCountsLine name payload a → IsCountsLine name payload b → a ≡ b
+same_counts_line law name payload a b first second =
     first.spelled
-    ∙ ap (λ (c : Option Counts). line ((n ∷ name) ++ codes " " ++ numbers c)) (same_read law n name payload first.counts second.counts other first.read second.read)
+    ∙ ap (λ (c : Option Counts). line (name ++ codes " " ++ numbers c)) (same_read law name payload first.counts second.counts first.read second.read)
     ∙ sym second.spelled
 
 same_line : OneCounts → (event : Event) (a b : List ℕ) → IsLine event a → IsLine event b → a ≡ b
 same_line law (records output) a b first second = first ∙ sym second
 same_line law cont a b first second = first ∙ sym second
-same_line law (progress payload) a b first second = same_counts_line law 80 (codes "rogress") payload a b (λ e. omega arith) first second
-same_line law (stats payload) a b first second = same_counts_line law 83 (codes "tats") payload a b (λ e. omega arith) first second
+same_line law (progress payload) a b first second = same_counts_line law (codes "Progress") payload a b first second
+same_line law (stats payload) a b first second = same_counts_line law (codes "Stats") payload a b first second
 same_line law end a b first second = first ∙ sym second
 same_line law (error code message) a b first second = first ∙ sym second
 

@@ -1,10 +1,7 @@
-use Rattle.std.proofs.Common.{◌≡◌, ◌∙◌, ◌∷◌, sym, subst, Option, None, MatchOption, ap}
+use Rattle.std.proofs.Common.{◌∙◌, ◌∷◌, sym, ap}
+use Rattle.event_frame.proofs.CountsLaws.{left_early}
 use Rattle.event_frame.proofs.HeaderLaws.{no_header-empty, no_header-unnamed, no_header-short_name, no_header-short, no_header-kind, no_header-short_value, spells-header}
 use Rattle.event_frame.proofs.headers.next_header.Goals as goal
-
--- an early `None`
-left_early : {A : Type 0} (r : Option A) (P : Type 0) (Q : A → Type 0) → r ≡ None → P → MatchOption r P Q
-left_early r P Q e p = subst (λ o. MatchOption o P Q) (sym e) p
 
 pub returns-in_err-length : goal.returns-in_err-length
 returns-in_err-length c = left_early _ _ _ c.from_residual.ensures (no_header-empty _ c.in_err-length.ensures.cases)
