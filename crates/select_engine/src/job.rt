@@ -1,5 +1,5 @@
 //! Running a query over the store's open object: each record is lent from a window and answered before the next is read.
-ghost use Rattle.std.specs.Prelude.{◌≡◌, ℕ, ◌+◌, ◌-◌, ◌^◌, ◌<◌, ◌≤◌, [], ◌∷◌, false, List, length, Err, IfErr};
+ghost use Rattle.std.specs.Prelude.{◌≡◌, ℕ, ◌+◌, ◌-◌, ◌^◌, ◌<◌, ◌≤◌, [], ◌∷◌, false, List, Err, IfErr};
 ghost use Rattle.select_ports.specs.Stored.{IsOpen};
 ghost use Rattle.line_window.specs.Sliding.{Tells, Holds, IsSound, left};
 ghost use Rattle.select_engine.specs.Records.{records, records_at, delimiter};

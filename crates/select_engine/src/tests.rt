@@ -1,6 +1,6 @@
 //! What no clause says: with memory at hand a body is read, and a reply is written. The lengths and CRCs of the replies were
 //! computed elsewhere.
-use crate::{Asked, Code, Outcome, prepare, refuse, run_job};
+use crate::{Asked, Code, Outcome, prepare, refuse, room, run_job};
 use event_frame::{Counts, crc32};
 use select_ports::{Found, Limits, MemObject, MemSink, MemStore, Plain, Store};
 use std::test::Fail;
@@ -16,10 +16,11 @@ fn a_body_asks_or_is_refused(rt: HostRuntime) -> Result<(), Fail> {
     let asks = matches!(prepare(alloc, BODY)?, Asked::Asks(_));
     assert!(rt; asks);
     let refused = match prepare(alloc, b"")? {
-        Asked::Refused { code, at } => code == Code::MalformedXML && at == 0,
+        Asked::Refused { code, at } => code.text() == "MalformedXML" && at == 0,
         Asked::Asks(_) => false,
     };
     assert!(rt; refused);
+    assert_eq!(rt; room(alloc, 3)?.len(), 3);
     Ok(())
 }
 
@@ -61,7 +62,9 @@ fn an_object_is_answered(rt: HostRuntime) -> Result<(), Fail> {
 fn a_refusal_is_written(rt: HostRuntime) -> Result<(), Fail> {
     let alloc = rt.alloc();
     let mut sink = MemSink::new(Vec::new(alloc), Vec::new(alloc), Vec::new(alloc));
-    let refused = refuse(alloc, Code::MalformedXML, 0, &mut Plain { sink: &mut sink }).is_ok();
+    let ended = refuse(alloc, Code::MalformedXML, 0, &mut Plain { sink: &mut sink });
+    let code = Code::MalformedXML;
+    let refused = ended == Ok(Outcome::Faulted { code, at: 0 });
     assert!(rt; refused);
     assert_eq!(rt; sink.written().len(), 105);
     assert_eq!(rt; crc32(sink.written()), 0x1e84_f34f);

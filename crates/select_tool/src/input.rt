@@ -1,5 +1,5 @@
 //! Reading the request body from the input.
-ghost use Rattle.std.specs.Prelude.{◌≡◌, ◌+◌, ◌<◌, ◌≤◌, length, take, ⊤, IfOk, IfErr};
+ghost use Rattle.std.specs.Prelude.{◌+◌, ◌<◌, ◌≤◌, length, take, ⊤, IfOk, IfErr};
 ghost use Rattle.std.specs.Io.KnownBytes.{Consumes, IsAtEnd};
 ghost use Rattle.select_ports.specs.Causes.{HasCause, Rose};
 ghost use Rattle.select_tool.specs.Input.{IsReadFrom, most_of_body};

@@ -6,6 +6,7 @@ use crate::run;
 use event_frame::{Counts, FrameWriter, crc32};
 use select_ports::{Failed, MemObject, MemSink, MemSource, MemStore, Plain};
 use std::alloc::Global;
+use std::process::Abort;
 use std::test::Fail;
 
 const OBJECT: &[u8] = b"id,name\n1,Ann\n2,Bo\n";
@@ -71,109 +72,159 @@ fn select(
     Ok((status, out, err))
 }
 
-#[test]
-fn replies_are_those_made_elsewhere(rt: HostRuntime) -> Result<(), Fail> {
-    let alloc = rt.alloc();
-    for (name, object, body, status, len, crc, line) in [
-        ("a.csv", OBJECT, BODY, 0, 411, 0x4c09_bb9f, b"".as_slice()),
-        (
-            "a.csv",
-            b"".as_slice(),
-            BODY,
-            0,
-            288,
-            0x178d_ac8c,
-            b"".as_slice(),
-        ),
-        (
-            "a.csv",
-            b"a\"b\n".as_slice(),
-            BODY,
-            1,
-            97,
-            0xe1a3_1d3d,
-            b"".as_slice(),
-        ),
-        (
-            "a.csv",
-            b"a\nb\"\nc\n".as_slice(),
-            BODY,
-            1,
-            200,
-            0xb720_c698,
-            b"".as_slice(),
-        ),
-        (
-            "a.csv",
-            OBJECT,
-            b"".as_slice(),
-            1,
-            105,
-            0x1e84_f34f,
-            b"".as_slice(),
-        ),
-        (
-            "a.csv",
-            OBJECT,
-            SPACED_BODY,
-            0,
-            411,
-            0x4c09_bb9f,
-            b"".as_slice(),
-        ),
-        (
-            "a.csv",
-            OBJECT,
-            COMPRESSED_BODY,
-            1,
-            131,
-            0xfe84_4915,
-            b"".as_slice(),
-        ),
-        (
-            "a.csv",
-            OBJECT,
-            UNBUILT_BODY,
-            1,
-            97,
-            0xe1a3_1d3d,
-            b"".as_slice(),
-        ),
-        ("b.csv", OBJECT, BODY, 2, 0, 0, b"NoSuchKey\n".as_slice()),
-    ] {
-        for length in [1, 65_536] {
-            let outside = unfailing(length);
-            let (code, out, err) = select(alloc, name, object, body, outside)?;
-            assert_eq!(rt; code, status);
-            assert_eq!(rt; out.written().len(), len);
-            assert_eq!(rt; crc32(out.written()), crc);
-            assert_eq!(rt; err.written(), line);
-        }
+/// What `select NAME` says of an object and a body: the status, the length and the CRC of the reply, and the error output.
+#[derive(Drop)]
+struct Reply<'t> {
+    name: &'t str,
+    object: &'t [u8],
+    body: &'t [u8],
+    status: u8,
+    len: usize,
+    crc: u32,
+    line: &'t [u8],
+}
+
+fn are_replied(rt: &impl Abort, alloc: Global, replies: &[Reply<'_>]) -> Result<(), Fail> {
+    for reply in replies {
+        is_replied(rt, alloc, reply, unfailing(1))?;
+        is_replied(rt, alloc, reply, unfailing(65_536))?;
     }
     Ok(())
+}
+
+fn is_replied(
+    rt: &impl Abort,
+    alloc: Global,
+    reply: &Reply<'_>,
+    outside: Outside,
+) -> Result<(), Fail> {
+    let (status, out, err) = select(alloc, reply.name, reply.object, reply.body, outside)?;
+    assert_eq!(rt; status, reply.status);
+    assert_eq!(rt; out.written().len(), reply.len);
+    assert_eq!(rt; crc32(out.written()), reply.crc);
+    assert_eq!(rt; err.written(), reply.line);
+    Ok(())
+}
+
+#[test]
+fn replies_are_those_made_elsewhere(rt: HostRuntime) -> Result<(), Fail> {
+    let replies = [
+        Reply {
+            name: "a.csv",
+            object: OBJECT,
+            body: BODY,
+            status: 0,
+            len: 411,
+            crc: 0x4c09_bb9f,
+            line: b"",
+        },
+        Reply {
+            name: "a.csv",
+            object: b"",
+            body: BODY,
+            status: 0,
+            len: 288,
+            crc: 0x178d_ac8c,
+            line: b"",
+        },
+        Reply {
+            name: "a.csv",
+            object: b"a\"b\n",
+            body: BODY,
+            status: 1,
+            len: 97,
+            crc: 0xe1a3_1d3d,
+            line: b"",
+        },
+        Reply {
+            name: "a.csv",
+            object: b"a\nb\"\nc\n",
+            body: BODY,
+            status: 1,
+            len: 200,
+            crc: 0xb720_c698,
+            line: b"",
+        },
+        Reply {
+            name: "a.csv",
+            object: OBJECT,
+            body: b"",
+            status: 1,
+            len: 105,
+            crc: 0x1e84_f34f,
+            line: b"",
+        },
+        Reply {
+            name: "a.csv",
+            object: OBJECT,
+            body: SPACED_BODY,
+            status: 0,
+            len: 411,
+            crc: 0x4c09_bb9f,
+            line: b"",
+        },
+        Reply {
+            name: "a.csv",
+            object: OBJECT,
+            body: COMPRESSED_BODY,
+            status: 1,
+            len: 131,
+            crc: 0xfe84_4915,
+            line: b"",
+        },
+        Reply {
+            name: "a.csv",
+            object: OBJECT,
+            body: UNBUILT_BODY,
+            status: 1,
+            len: 97,
+            crc: 0xe1a3_1d3d,
+            line: b"",
+        },
+        Reply {
+            name: "b.csv",
+            object: OBJECT,
+            body: BODY,
+            status: 2,
+            len: 0,
+            crc: 0,
+            line: b"NoSuchKey\n",
+        },
+    ];
+    are_replied(&rt, rt.alloc(), &replies)
+}
+
+/// The reply of which a front was written where a call fails: the status and the error output tell whether one did.
+fn is_cut_short(
+    rt: &impl Abort,
+    alloc: Global,
+    reply: &[u8],
+    outside: Outside,
+    failing: u8,
+    line: &[u8],
+) -> Result<bool, Fail> {
+    let (status, out, err) = select(alloc, "a.csv", OBJECT, BODY, outside)?;
+    assert!(rt; reply.starts_with(out.written()));
+    let failed = err.written() == line;
+    assert_eq!(rt; status, if failed { failing } else { 0 });
+    Ok(failed)
 }
 
 #[test]
 fn a_failing_call_leaves_a_front_of_the_reply(rt: HostRuntime) -> Result<(), Fail> {
     let alloc = rt.alloc();
     for length in [1, 65_536] {
-        let mut whole = unfailing(length);
-        let (_, reply, _) = select(alloc, "a.csv", OBJECT, BODY, whole)?;
+        let mut outside = unfailing(length);
+        let (_, reply, _) = select(alloc, "a.csv", OBJECT, BODY, outside)?;
         for call in 1..24 {
-            whole.store_fails = call;
-            let (code, out, err) = select(alloc, "a.csv", OBJECT, BODY, whole)?;
-            assert!(rt; reply.written().starts_with(out.written()));
-            let failed = err.written() == b"store fault\n".as_slice();
-            assert_eq!(rt; code, if failed { 5 } else { 0 });
+            outside.store_fails = call;
+            let failed = is_cut_short(&rt, alloc, reply.written(), outside, 5, b"store fault\n")?;
             assert!(rt; failed || call > 2);
         }
-        whole.store_fails = 0;
+        outside.store_fails = 0;
         for call in [1, 2, 3, 300] {
-            whole.out_fails = call;
-            let (code, out, err) = select(alloc, "a.csv", OBJECT, BODY, whole)?;
-            assert!(rt; reply.written().starts_with(out.written()));
-            let failed = err.written() == b"output fault\n".as_slice();
-            assert_eq!(rt; code, if failed { 4 } else { 0 });
+            outside.out_fails = call;
+            let failed = is_cut_short(&rt, alloc, reply.written(), outside, 4, b"output fault\n")?;
             assert!(rt; failed || call > 3);
         }
     }
@@ -209,84 +260,173 @@ fn joined(alloc: Global, first: &[u8], front: usize, second: &[u8]) -> Result<Ve
     Ok(bytes)
 }
 
+/// What a command says of the first bytes of a reply, and then those of another: the status, the output and the error output.
+#[derive(Drop)]
+struct Listed<'t> {
+    word: &'t str,
+    first: &'t [u8],
+    front: usize,
+    second: &'t [u8],
+    status: u8,
+    output: &'t [u8],
+    line: &'t [u8],
+}
+
+fn are_listed(rt: &impl Abort, alloc: Global, listings: &[Listed<'_>]) -> Result<(), Fail> {
+    for listed in listings {
+        is_listed(rt, alloc, listed, unfailing(1))?;
+        is_listed(rt, alloc, listed, unfailing(65_536))?;
+    }
+    Ok(())
+}
+
+fn is_listed(
+    rt: &impl Abort,
+    alloc: Global,
+    listed: &Listed<'_>,
+    outside: Outside,
+) -> Result<(), Fail> {
+    let bytes = joined(alloc, listed.first, listed.front, listed.second)?;
+    let (status, out, err) = list(alloc, listed.word, bytes, outside)?;
+    assert_eq!(rt; status, listed.status);
+    assert_eq!(rt; out.written(), listed.output);
+    assert_eq!(rt; err.written(), listed.line);
+    Ok(())
+}
+
 #[test]
 fn what_is_listed_of_replies_made_elsewhere(rt: HostRuntime) -> Result<(), Fail> {
-    let alloc = rt.alloc();
-    for (word, first, front, second, status, listed, line) in [
-        ("show", REPLY, 411, b"".as_slice(), 0, LINES, b"".as_slice()),
-        ("records", REPLY, 411, REPLY, 0, TWICE, b"".as_slice()),
-        (
-            "show",
-            REPLY,
-            300,
-            b"".as_slice(),
-            8,
-            b"Records 19\n".as_slice(),
-            b"bad reply at 300\n".as_slice(),
-        ),
-        (
-            "records",
-            REPLY,
-            355,
-            b"".as_slice(),
-            8,
-            OBJECT,
-            b"bad reply at 355\n".as_slice(),
-        ),
-        (
-            "show",
-            REPLY,
-            355,
-            FLIPPED,
-            8,
-            b"Records 19\nStats 19 19 19\n".as_slice(),
-            b"bad reply at 407\n".as_slice(),
-        ),
-        (
-            "show",
-            b"".as_slice(),
-            0,
-            b"".as_slice(),
-            8,
-            b"".as_slice(),
-            b"bad reply at 0\n".as_slice(),
-        ),
-        (
-            "show",
-            ERROR,
-            101,
-            REPLY,
-            1,
-            b"Error CastFailed CastFailed at byte 2\nRecords 19\nStats 19 19 19\nEnd\n".as_slice(),
-            b"".as_slice(),
-        ),
-        ("records", REPLY, 411, ERROR, 1, OBJECT, b"".as_slice()),
-        (
-            "show",
-            ODD,
-            84,
-            OTHERS,
-            1,
-            b"Stats ? ? ?\nCont\nProgress 0 340282366920938463463374607431768211455 7\nError a? ~?? \n".as_slice(),
-            b"".as_slice(),
-        ),
-        (
-            "list",
-            REPLY,
-            411,
-            b"".as_slice(),
-            2,
-            b"".as_slice(),
-            b"bad words\n".as_slice(),
-        ),
-    ] {
-        for length in [1, 65_536] {
-            let bytes = joined(alloc, first, front, second)?;
-            let (code, out, err) = list(alloc, word, bytes, unfailing(length))?;
-            assert_eq!(rt; code, status);
-            assert_eq!(rt; out.written(), listed);
-            assert_eq!(rt; err.written(), line);
-        }
+    let listings = [
+        Listed {
+            word: "show",
+            first: REPLY,
+            front: 411,
+            second: b"",
+            status: 0,
+            output: LINES,
+            line: b"",
+        },
+        Listed {
+            word: "records",
+            first: REPLY,
+            front: 411,
+            second: REPLY,
+            status: 0,
+            output: TWICE,
+            line: b"",
+        },
+        Listed {
+            word: "show",
+            first: REPLY,
+            front: 300,
+            second: b"",
+            status: 8,
+            output: b"Records 19\n",
+            line: b"bad reply at 300\n",
+        },
+        Listed {
+            word: "records",
+            first: REPLY,
+            front: 355,
+            second: b"",
+            status: 8,
+            output: OBJECT,
+            line: b"bad reply at 355\n",
+        },
+        Listed {
+            word: "show",
+            first: REPLY,
+            front: 355,
+            second: FLIPPED,
+            status: 8,
+            output: b"Records 19\nStats 19 19 19\n",
+            line: b"bad reply at 407\n",
+        },
+        Listed {
+            word: "show",
+            first: b"",
+            front: 0,
+            second: b"",
+            status: 8,
+            output: b"",
+            line: b"bad reply at 0\n",
+        },
+        Listed {
+            word: "show",
+            first: ERROR,
+            front: 101,
+            second: REPLY,
+            status: 1,
+            output: b"Error CastFailed CastFailed at byte 2\nRecords 19\nStats 19 19 19\nEnd\n",
+            line: b"",
+        },
+        Listed {
+            word: "records",
+            first: REPLY,
+            front: 411,
+            second: ERROR,
+            status: 1,
+            output: OBJECT,
+            line: b"",
+        },
+        Listed {
+            word: "show",
+            first: ODD,
+            front: 84,
+            second: OTHERS,
+            status: 1,
+            output: b"Stats ? ? ?\nCont\nProgress 0 340282366920938463463374607431768211455 7\nError a? ~?? \n",
+            line: b"",
+        },
+        Listed {
+            word: "list",
+            first: REPLY,
+            front: 411,
+            second: b"",
+            status: 2,
+            output: b"",
+            line: b"bad words\n",
+        },
+    ];
+    are_listed(&rt, rt.alloc(), &listings)
+}
+
+/// The listing of a reply of which a front was written where a call fails: the status and the error output tell whether one did.
+fn is_listed_in_part(
+    rt: &impl Abort,
+    alloc: Global,
+    word: &str,
+    output: &[u8],
+    outside: Outside,
+    failing: u8,
+    line: &[u8],
+) -> Result<bool, Fail> {
+    let (status, out, err) = list(alloc, word, Vec::from_slice(alloc, REPLY)?, outside)?;
+    assert!(rt; output.starts_with(out.written()));
+    let failed = err.written() == line;
+    assert_eq!(rt; status, if failed { failing } else { 0 });
+    Ok(failed)
+}
+
+/// Reads and writes of these lengths, each of which fails in its turn.
+fn fails_in_turn(
+    rt: &impl Abort,
+    alloc: Global,
+    word: &str,
+    output: &[u8],
+    length: usize,
+) -> Result<(), Fail> {
+    let mut outside = unfailing(length);
+    for call in [1, 2, 3, 300, 500] {
+        outside.input_fails = call;
+        let failed = is_listed_in_part(rt, alloc, word, output, outside, 3, b"input fault\n")?;
+        assert!(rt; failed || call > 2);
+    }
+    outside.input_fails = 0;
+    for call in [1, 2, 19, 50] {
+        outside.out_fails = call;
+        let failed = is_listed_in_part(rt, alloc, word, output, outside, 4, b"output fault\n")?;
+        assert!(rt; failed || call > 1);
     }
     Ok(())
 }
@@ -294,29 +434,9 @@ fn what_is_listed_of_replies_made_elsewhere(rt: HostRuntime) -> Result<(), Fail>
 #[test]
 fn a_failing_read_or_write_leaves_a_front_of_what_is_listed(rt: HostRuntime) -> Result<(), Fail> {
     let alloc = rt.alloc();
-    for (word, listed) in [("show", LINES), ("records", OBJECT)] {
-        for length in [1, 65_536] {
-            let mut outside = unfailing(length);
-            for call in [1, 2, 3, 300, 500] {
-                outside.input_fails = call;
-                let reply = Vec::from_slice(alloc, REPLY)?;
-                let (code, out, err) = list(alloc, word, reply, outside)?;
-                assert!(rt; listed.starts_with(out.written()));
-                let failed = err.written() == b"input fault\n".as_slice();
-                assert_eq!(rt; code, if failed { 3 } else { 0 });
-                assert!(rt; failed || call > 2);
-            }
-            outside.input_fails = 0;
-            for call in [1, 2, 19, 50] {
-                outside.out_fails = call;
-                let reply = Vec::from_slice(alloc, REPLY)?;
-                let (code, out, err) = list(alloc, word, reply, outside)?;
-                assert!(rt; listed.starts_with(out.written()));
-                let failed = err.written() == b"output fault\n".as_slice();
-                assert_eq!(rt; code, if failed { 4 } else { 0 });
-                assert!(rt; failed || call > 1);
-            }
-        }
+    for length in [1, 65_536] {
+        fails_in_turn(&rt, alloc, "show", LINES, length)?;
+        fails_in_turn(&rt, alloc, "records", OBJECT, length)?;
     }
     Ok(())
 }
