@@ -1,9 +1,8 @@
 -- What an input of replies means, told by the bytes that came of it.
-use Rattle.std.proofs.Common.{◌≡◌, ℕ, ◌+◌, ◌-◌, ◌^◌, ◌<◌, ◌≤◌, ◌⊎◌, List, [], ◌++◌, length, take, Bool, true, false, Option, None, Some, IfSome, Result, Ok, Err, refl, sym, ap, ◌∙◌, subst, inl, inr, arith, append_assoc, append-nil, length-append}
+use Rattle.std.proofs.Common.{◌≡◌, ℕ, ◌+◌, ◌-◌, ◌^◌, ◌<◌, ◌≤◌, ◌⊎◌, List, [], ◌++◌, length, take, Bool, false, Option, None, Some, IfSome, Result, Ok, Err, refl, sym, ap, ◌∙◌, subst, inl, inr, arith, append_assoc, append-nil, length-append}
 use Rattle.std.proofs.lemmas.List.{take_all, take-append-le}
 use Rattle.std.proofs.Math.Seq.{take-append-add}
-use Rattle.std.specs.Prelude.{min, IfErr, ◌||◌}
-use Rattle.std.specs.List.{list_any}
+use Rattle.std.specs.Prelude.{min, IfErr}
 use Rattle.std.specs.Io.KnownBytes.{Consumes, IsAtEnd}
 use Rattle.std.proofs.KnownBytes.{Consumes-trans, Consumes-nil}
 use Rattle.select_ports.specs.Causes.{Rose}
@@ -14,7 +13,7 @@ use Rattle.event_frame.specs.Stream.{SpellsEvents}
 use Rattle.select_tool.specs.declared.listing.Listing.{Listing}
 use Rattle.select_tool.specs.declared.trouble.Trouble.{Trouble}
 use Rattle.select_tool.specs.declared.trouble.Trouble.TheVariants.{BadWords, NoSuchKey, InputFault, OutputFault, StoreFault, OutOfMemory, BadReply}
-use Rattle.select_tool.specs.Endings.{longest_input, replied, bad, long, ends_after, are_replies, is_error}
+use Rattle.select_tool.specs.Endings.{longest_input, bad, long, ends_after, are_replies}
 use Rattle.select_tool.specs.Statuses.{status_of, line_of}
 use Rattle.select_tool.specs.Replies.{WritesUnlessFaulty}
 use Rattle.select_tool.specs.Listings.{IsListed, IsListedInPart, IsRefused, ListingCause, WentOver}
@@ -95,27 +94,6 @@ replies_end : (s t : Stand) (events : List Event) (ended : Bool) → s.ended ≡
 replies_end s t events ended fresh after is =
     ap (λ b. ends_after b events) (sym fresh) ∙ ap (λ (x : Stand). x.ended) (sym after) ∙ is
 
-errors_told : (s t : Stand) (events : List Event) → s.erred ≡ false → t ≡ after_events s events → t.erred ≡ list_any is_error events
-errors_told s t events fresh after = ap (λ (x : Stand). x.erred) after ∙ ap (λ b. b || list_any is_error events) fresh
-
-replied_whole : (bytes kept : List ℕ) (s t : Stand) (erred : Bool) (a b : Option (List ℕ)) → length bytes ≤ longest_input → s.ended ≡ false → s.erred ≡ false
-    → Answers bytes kept s t a b → (kept ≡ []) × (t.ended ≡ true) × (erred ≡ t.erred) → IsListed s.listing bytes (replied erred) a b
-replied_whole bytes kept s t erred a b within fresh_ended fresh_erred answers end = record {
-  events = answers.events;
-  ends = record {
-    within = within;
-    reads = record {
-      spelled = subst (λ (l : List ℕ). SpellsEvents bytes answers.events l) end.0 answers.spelled;
-      ended = inl (omega arith);
-    };
-    replies = replies_end s t answers.events true fresh_ended answers.stand end.1;
-    told = end.2 ∙ errors_told s t answers.events fresh_erred answers.stand;
-  };
-  output = answers.output;
-  lists = answers.lists;
-  written = answers.written;
-}
-
 unfinished_is : (kept : List ℕ) (s t : Stand) (events : List Event) → s.ended ≡ false → t ≡ after_events s events
     → (0 < length kept) ⊎ (t.ended ≡ false) → (0 < length kept) ⊎ (are_replies events ≡ false)
 unfinished_is kept s t events fresh after (inl some) = inl some
@@ -139,13 +117,6 @@ ended_early bytes kept s t taken a b within size fresh begun answers unfinished 
 
 begun_of : (frames : ReaderState) → IsReady frames → IsBegun frames.kept
 begun_of frames ready = ready.sound.begun ready.not_held ready.no_fault
-
-pub finish_done : (taken : ℕ) (frames : ReaderState) (s t : Stand) (left now a b : Option (List ℕ)) (erred : Bool) → Came taken frames.kept s t left now a b
-    → taken ≤ longest_input → s.ended ≡ false → s.erred ≡ false → IsAtEnd now → (frames.kept ≡ []) × (t.ended ≡ true) × (erred ≡ t.erred)
-    → IfSome left (λ input. IsListed s.listing input (replied erred) a b)
-finish_done taken frames s t left now a b erred came within fresh_ended fresh_erred ended end =
-    all_told left now came.bytes (λ input. IsListed s.listing input (replied erred) a b) came.consumed ended
-    (replied_whole came.bytes frames.kept s t erred a b (omega (arith, came.size)) fresh_ended fresh_erred came.answers end)
 
 pub finish_early : (taken : ℕ) (frames : ReaderState) (s t : Stand) (left now a b : Option (List ℕ)) → Came taken frames.kept s t left now a b
     → IsReady frames → taken ≤ longest_input → s.ended ≡ false → IsAtEnd now → (0 < length frames.kept) ⊎ (t.ended ≡ false)

@@ -2,5 +2,4 @@ pub mod LineLaws
 pub mod ListingLaws
 pub mod OneListing
 pub mod EndingLaws
-pub mod PrepareLaws
 pub mod ReplyLaws

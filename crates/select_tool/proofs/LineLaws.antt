@@ -1,9 +1,9 @@
 -- Texts of an event: how they are printed, and how long they are.
-use Rattle.std.proofs.Common.{◌≡◌, ℕ, ◌+◌, ◌<◌, ◌≤◌, List, [], ◌∷◌, ◌++◌, length, take, get_or, Bool, true, false, cond, Option, None, Some, refl, sym, ap, ◌∙◌, subst, arith, append_assoc}
+use Rattle.std.proofs.Common.{◌≡◌, ℕ, ◌+◌, ◌<◌, List, [], ◌∷◌, ◌++◌, length, take, get_or, Bool, true, false, cond, Option, None, Some, refl, sym, ap, ◌∙◌, subst, arith, append_assoc}
 use Rattle.std.specs.Prelude.{codes, unwrap_or, option_and_then}
 use Rattle.std.specs.Option.{option_map}
 use Rattle.std.specs.Str.{bytes_eq}
-use Rattle.std.proofs.lemmas.List.{map_more, take_all}
+use Rattle.std.proofs.lemmas.List.{map_more}
 use Rattle.event_frame.specs.Message.{Header}
 use Rattle.event_frame.specs.Event.{Event, records, cont, progress, stats, end, error}
 use Rattle.event_frame.specs.Reading.{AreHeaders, value_of, event_named, error_meant, event_typed, IsFrame}
@@ -16,9 +16,6 @@ unfolding printed
 printed_more start before now text i shown within is front added =
     added ∙ ap (λ l. l ++ shown ∷ []) front ∙ append_assoc start (printed (take i text)) (shown ∷ [])
     ∙ ap (λ l. start ++ l) (ap (λ s. printed (take i text) ++ s ∷ []) is ∙ sym (map_more printable text i 0 within))
-
-pub printed_all : (start now text : List ℕ) (i : ℕ) → length text ≤ i → now ≡ start ++ printed (take i text) → now ≡ start ++ printed text
-printed_all start now text i all is = is ∙ ap (λ l. start ++ printed l) (take_all i text all)
 
 -- ---- texts are no longer than a header's value
 

@@ -1,5 +1,5 @@
 //! The top call: a command from its words to its exit status.
-ghost use Rattle.std.specs.Prelude.{◌≡◌, ◌≢◌, ◌⊎◌, ◌-◌, ◌<◌, IfSome, IfNone};
+ghost use Rattle.std.specs.Prelude.{◌≡◌, ◌≢◌, ◌⊎◌, ◌+◌, ◌-◌, ◌<◌, ◌≤◌, IfSome, IfNone};
 ghost use Rattle.std.specs.Io.KnownBytes.{Keeps};
 ghost use Rattle.select_ports.specs.Causes.{Rose};
 ghost use Rattle.select_tool.specs.Words.{selects, lists, ordered, selected, listed};
