@@ -1,6 +1,8 @@
 //! Worked examples, whose values and places are told by the grammars as they are written.
 
-use crate::{Expression, KeyedError, MAX_DEPTH, ParseError, Sign, Token, parse, read_entries};
+use crate::{
+    Cursor, Expression, KeyedError, MAX_DEPTH, ParseError, Sign, Token, parse, read_entries,
+};
 use sqlite_items::Items;
 use std::test::Fail;
 
@@ -84,4 +86,14 @@ fn entries_in_any_order(rt: HostRuntime) -> Result<(), Fail> {
         );
     }
     Ok(())
+}
+
+#[test]
+fn a_cursor_over_three_symbols(rt: HostRuntime) {
+    let mut cursor = Cursor::new(&[1u8, 2, 3]);
+    assert_eq!(rt; cursor.len(), 3);
+    assert!(rt; cursor.peek() == Some(1));
+    cursor.skip();
+    assert!(rt; cursor.next() == Some(2));
+    assert_eq!(rt; cursor.len(), 1);
 }

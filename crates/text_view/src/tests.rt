@@ -109,8 +109,9 @@ fn calls(rt: HostRuntime) -> Result<(), Fail> {
     assert!(rt; trimmed.len_chars() == 6);
     assert!(rt; trimmed.chars().next() == Some('S'));
     assert!(rt; text.compare(&trimmed).is_lt());
-    if let Ok(held) = ArrayString::from("Añb") {
-        shows(rt.alloc(), &rt, &Text::short(held).upper().sub(1, 1), "ñ")?;
-    }
+    let held = ArrayString::from("Añb").ok().ok_or("no room")?;
+    shows(rt.alloc(), &rt, &Text::short(held).upper().sub(1, 1), "ñ")?;
+    shows(rt.alloc(), &rt, &Text::short(held).again(), "Añb")?;
+    shows(rt.alloc(), &rt, &trimmed.again(), "Straße")?;
     Ok(())
 }
