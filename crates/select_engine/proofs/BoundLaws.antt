@@ -3,9 +3,6 @@ use Rattle.std.proofs.Common.{◌≡◌, ℕ, zero, suc, ◌+◌, ◌*◌, ◌^�
 use Rattle.std.specs.Prelude.{filter, bytes_eq, nat_le, take_while}
 use Rattle.std.proofs.lemmas.List.Sums.{sum_by-append, take_while-cons}
 use Rattle.std.proofs.lemmas.Bool.{lt-leb}
-use Rattle.std.specs.Io.KnownBytes.{Keeps}
-use Rattle.std.proofs.KnownBytes.{Appends-nil}
-use Rattle.select_ports.proofs.Told.{appends-kept}
 use Rattle.event_frame.specs.Event.{records as records_event}
 use Rattle.line_window.specs.Starts.{starts, is_start, before_delimiter, body, content, without_mark}
 use Rattle.line_window.specs.Sliding.{View, left, place}
@@ -17,7 +14,7 @@ use Rattle.select_engine.specs.Records.{Record, record_at, is_record_at, records
 use Rattle.select_engine.specs.Answer.{yielded, bytes_of, processed, processed_on, output, total_len}
 use Rattle.select_engine.specs.Events.{wrapped_frames}
 use Rattle.select_engine.specs.Begun.{Begun}
-use Rattle.select_engine.specs.Jobs.{whole_frames, early, WroteEarly}
+use Rattle.select_engine.specs.Jobs.{whole_frames, WroteEarly}
 use Rattle.select_engine.specs.Streaming.{Streamed}
 use Rattle.select_engine.proofs.Cutting.{whole_pieces-append}
 use Rattle.select_engine.proofs.Framing.{piece_frames-append}
@@ -198,23 +195,3 @@ wrote_early wrap longest taken object places v begun before mid s byte far =
 -- a range within an object of 64 bits has fewer than 2^64 starts
 pub length-left : (object : List ℕ) (v : View) → v.last < v.size → v.size < 2 ^ 64 → length (left object v) < 2 ^ 64
 length-left object v within small = omega (arith, length-starts v.delimiter object (place v) (v.last + 1 - place v))
-
-none-early : (longest taken : ℕ) (rs : List Record) → taken ≡ 0 → early longest taken rs ≡ []
-none-early longest taken [] none = refl
-none-early longest taken (r ∷ rs) none =
-    let late_one : nat_le (r.start + r.len + (2 * longest + 5 * 65536)) taken ≡ false = lt-leb (r.start + r.len + (2 * longest + 5 * 65536)) taken (omega arith) in
-    take_while-cons (λ r. nat_le (r.start + r.len + (2 * longest + 5 * 65536)) taken) r rs
-    ∙ ap (λ b. cond b (r ∷ early longest taken rs) []) late_one
-
-no_frames : (wrap : List ℕ → List ℕ) → whole_frames wrap [] ≡ []
-unfolding whole_pieces
-no_frames wrap = refl
-
--- nothing was read, so nothing had to be written
-pub wrote_none : (wrap : List ℕ → List ℕ) (longest taken : ℕ) (rs : List Record) (before now : Option (List ℕ)) → taken ≡ 0 → Keeps before now
-    → WroteEarly wrap longest taken rs before now
-wrote_none wrap longest taken rs before now none kept = record {
-  bytes = [];
-  written = appends-kept before before now [] (Appends-nil before) kept;
-  front = record { rest = []; joined = sym (ap (λ l. whole_frames wrap (output l) ++ []) (none-early longest taken rs none) ∙ ap (λ l. l ++ []) (no_frames wrap)) };
-}

@@ -2,7 +2,6 @@ pub mod AnswerLaws
 pub mod BoundLaws
 pub mod Contents
 pub mod Cutting
-pub mod Filling
 pub mod Framing
 pub mod StreamLaws
 pub mod WindowSteps

@@ -1,6 +1,6 @@
 use Rattle.std.proofs.Common.{◌≡◌, ◌-◌, ◌≤◌, length, arith, length-take, length-drop, refl}
 use Rattle.std.proofs.KnownBytes.{Consumes-trans}
-use Rattle.select_engine.proofs.Filling.{take-filled, length-filled}
+use Rattle.select_tool.proofs.Filling.{take-filled, length-filled}
 use Rattle.select_tool.proofs.input.fill.Goals as goal
 
 pub loop-len-preserved : goal.loop-len-preserved

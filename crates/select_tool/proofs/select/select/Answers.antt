@@ -4,7 +4,7 @@ use Rattle.select_engine.specs.Records.{records}
 use Rattle.select_engine.specs.Answer.{processed}
 use Rattle.select_engine.specs.Jobs.{WroteEarly}
 use Rattle.select_tool.specs.Replies.{longest_record}
-use Rattle.select_engine.proofs.BoundLaws.{wrote_none}
+use Rattle.select_tool.proofs.NothingRead.{wrote_none}
 use Rattle.select_tool.proofs.ReplyLaws.{all_told}
 use Rattle.select_tool.proofs.select.select.Goals as goal
 
