@@ -37,6 +37,7 @@ is_plain_input (input.Csv csv) =
     not csv.quoted_delimiters && csv.comment == 35 && csv.field == 44 && is_without csv.header
     && csv.quote == 34 && csv.escape == 34 && is_line_feed csv.delimiter
 is_plain_input input.JsonLines = false
+is_plain_input input.JsonDocument = false
 is_plain_input input.Parquet = false
 
 -- the same of the reply: fields parted by `,`, quotes and escapes `"` only where they are needed, records ended by LF

@@ -69,7 +69,7 @@ fn is_plain_input(input: Input) -> bool
                 && csv.escape == b'"'
                 && is_line_feed(csv.delimiter)
         }
-        Input::JsonLines | Input::Parquet => false,
+        Input::JsonLines | Input::JsonDocument | Input::Parquet => false,
     }
 }
 

@@ -1,7 +1,7 @@
 pub mod Escaping
 pub mod Finding
 pub mod Lookups
-pub mod OneFault
+pub mod OneReading
 pub mod Parts
 pub mod Printables
 pub mod PrintedElements

@@ -12,7 +12,7 @@ use Rattle.select_request.specs.declared.request.CsvInput.{CsvInput as CsvInputS
 use Rattle.select_request.specs.declared.request.CsvOutput.{CsvOutput as CsvOutputSettings}
 use Rattle.select_request.specs.declared.request.Delimiter.{Delimiter}
 use Rattle.select_request.specs.declared.request.Input.{Input}
-use Rattle.select_request.specs.declared.request.Input.TheVariants.{Csv as CsvObject, JsonLines, Parquet}
+use Rattle.select_request.specs.declared.request.Input.TheVariants.{Csv as CsvObject, JsonLines, JsonDocument, Parquet}
 use Rattle.select_request.specs.declared.request.Output.{Output}
 use Rattle.select_request.specs.declared.request.Output.TheVariants.{Csv as CsvReply, Json}
 use Rattle.select_request.specs.declared.request.ScanRange.{ScanRange as Range}
@@ -43,16 +43,19 @@ found_text e at (closes x ∷ parts) = found_text e (at + length (print_part (cl
 abbrev pub of_csv_input : (CsvInputSettings → List ℕ) → Input → Option (List ℕ)
 of_csv_input text (CsvObject csv) = Some (text csv)
 of_csv_input text JsonLines = None
+of_csv_input text JsonDocument = None
 of_csv_input text Parquet = None
 
-abbrev pub of_json_input : List ℕ → Input → Option (List ℕ)
-of_json_input text (CsvObject csv) = None
-of_json_input text JsonLines = Some text
-of_json_input text Parquet = None
+abbrev pub of_json_input : List ℕ → List ℕ → Input → Option (List ℕ)
+of_json_input lines document (CsvObject csv) = None
+of_json_input lines document JsonLines = Some lines
+of_json_input lines document JsonDocument = Some document
+of_json_input lines document Parquet = None
 
 abbrev pub of_parquet : Input → Option (List ℕ)
 of_parquet (CsvObject csv) = None
 of_parquet JsonLines = None
+of_parquet JsonDocument = None
 of_parquet Parquet = Some []
 
 abbrev pub of_csv_output : (CsvOutputSettings → List ℕ) → Output → Option (List ℕ)
@@ -95,8 +98,8 @@ wanted r FileHeaderInfo = of_csv_input (λ csv. header_text csv.header) r.input
 wanted r InputQuoteCharacter = of_csv_input (λ csv. csv.quote ∷ []) r.input
 wanted r InputQuoteEscapeCharacter = of_csv_input (λ csv. csv.escape ∷ []) r.input
 wanted r InputRecordDelimiter = of_csv_input (λ csv. delimiter_text csv.delimiter) r.input
-wanted r JsonInput = of_json_input [] r.input
-wanted r JsonType = of_json_input (codes "LINES") r.input
+wanted r JsonInput = of_json_input [] [] r.input
+wanted r JsonType = of_json_input (codes "LINES") (codes "DOCUMENT") r.input
 wanted r ParquetInput = of_parquet r.input
 wanted r OutputSerialization = Some []
 wanted r CsvOutput = of_csv_output (λ csv. []) r.output
@@ -149,6 +152,22 @@ text_is x p JsonLines (Json d) (Some (From a)) Request = refl
 text_is x p JsonLines (Json d) (Some (From a)) e = refl
 text_is x p JsonLines (Json d) (Some (Last b)) Request = refl
 text_is x p JsonLines (Json d) (Some (Last b)) e = refl
+text_is x p JsonDocument (CsvReply out) None Request = refl
+text_is x p JsonDocument (CsvReply out) None e = refl
+text_is x p JsonDocument (CsvReply out) (Some (Between a b)) Request = refl
+text_is x p JsonDocument (CsvReply out) (Some (Between a b)) e = refl
+text_is x p JsonDocument (CsvReply out) (Some (From a)) Request = refl
+text_is x p JsonDocument (CsvReply out) (Some (From a)) e = refl
+text_is x p JsonDocument (CsvReply out) (Some (Last b)) Request = refl
+text_is x p JsonDocument (CsvReply out) (Some (Last b)) e = refl
+text_is x p JsonDocument (Json d) None Request = refl
+text_is x p JsonDocument (Json d) None e = refl
+text_is x p JsonDocument (Json d) (Some (Between a b)) Request = refl
+text_is x p JsonDocument (Json d) (Some (Between a b)) e = refl
+text_is x p JsonDocument (Json d) (Some (From a)) Request = refl
+text_is x p JsonDocument (Json d) (Some (From a)) e = refl
+text_is x p JsonDocument (Json d) (Some (Last b)) Request = refl
+text_is x p JsonDocument (Json d) (Some (Last b)) e = refl
 text_is x p Parquet (CsvReply out) None Request = refl
 text_is x p Parquet (CsvReply out) None e = refl
 text_is x p Parquet (CsvReply out) (Some (Between a b)) Request = refl

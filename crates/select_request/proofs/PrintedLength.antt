@@ -7,7 +7,8 @@ use Rattle.std.proofs.lemmas.Fmt.{length-decimal-le}
 use Rattle.std.proofs.Math.ListN.{length-append}
 use Rattle.request_elements.specs.Elements.{name_of}
 use Rattle.select_request.specs.Printed.{Part, opens, leaf, closes, escaped_byte, escaped, truth_text, header_text, quoting_text, delimiter_text, start_tag, end_tag, print_part, print_parts, input_parts, output_parts, range_parts, settings_parts, parts_of, printed}
-use Rattle.select_request.specs.Printable.{is_expression, allows_range, is_range_of, is_printable}
+use Rattle.select_request.specs.Values.{allows_range}
+use Rattle.select_request.specs.Printable.{is_expression, is_range_of, is_printable}
 use Rattle.request_elements.specs.declared.element.Element.{Element}
 use Rattle.request_elements.specs.declared.element.Element.TheVariants.{Request, Expression, ExpressionType, RequestProgress, Enabled, InputSerialization, CompressionType, CsvInput, AllowQuotedRecordDelimiter, Comments, InputFieldDelimiter, FileHeaderInfo, InputQuoteCharacter, InputQuoteEscapeCharacter, InputRecordDelimiter, JsonInput, JsonType, ParquetInput, OutputSerialization, CsvOutput, OutputFieldDelimiter, OutputQuoteCharacter, OutputQuoteEscapeCharacter, QuoteFields, CsvRecordDelimiter, JsonOutput, JsonRecordDelimiter, ScanRange, Start, End}
 use Rattle.select_request.specs.declared.request.Delimiter.{Delimiter}
@@ -15,7 +16,7 @@ use Rattle.select_request.specs.declared.request.Delimiter.TheVariants.{One, Two
 use Rattle.select_request.specs.declared.request.Header.{Header}
 use Rattle.select_request.specs.declared.request.Header.TheVariants.{Without, Ignore, Use}
 use Rattle.select_request.specs.declared.request.Input.{Input}
-use Rattle.select_request.specs.declared.request.Input.TheVariants.{Csv as CsvObject, JsonLines, Parquet}
+use Rattle.select_request.specs.declared.request.Input.TheVariants.{Csv as CsvObject, JsonLines, JsonDocument, Parquet}
 use Rattle.select_request.specs.declared.request.Output.{Output}
 use Rattle.select_request.specs.declared.request.Output.TheVariants.{Csv as CsvReply, Json}
 use Rattle.select_request.specs.declared.request.ScanRange.{ScanRange as Range}
@@ -124,6 +125,7 @@ decimal_bound n h = length-decimal-le 20 n (omega arith) (omega arith) (omega ar
 input_bound : (i : Input) → weigh (input_parts i) ≤ 600
 input_bound (CsvObject csv) = omega (arith, truth_bound csv.quoted_delimiters, header_bound csv.header, delimiter_bound csv.delimiter)
 input_bound JsonLines = omega arith
+input_bound JsonDocument = omega arith
 input_bound Parquet = omega arith
 
 output_bound : (o : Output) → weigh (output_parts o) ≤ 600

@@ -11,8 +11,8 @@ use Rattle.std.proofs.lemmas.Fmt.{digits_decimal}
 use Rattle.request_elements.specs.Pieces.{Symbol, has, symbols_of}
 use Rattle.request_elements.specs.TextValue.{text_value}
 use Rattle.request_elements.specs.Grammar.{element_within, request_body}
-use Rattle.select_request.specs.Values.{is_character}
-use Rattle.select_request.specs.Printable.{is_delimiter, is_input, is_output, allows_range, is_range_of, is_expression, is_printable}
+use Rattle.select_request.specs.Values.{is_character, allows_range}
+use Rattle.select_request.specs.Printable.{is_delimiter, is_input, is_output, is_range_of, is_expression, is_printable}
 use Rattle.select_request.specs.Printed.{Part, escaped, truth_text, header_text, quoting_text, delimiter_text, parts_of, printed}
 use Rattle.select_request.proofs.PrintedElements.{found_in, found_of}
 use Rattle.request_elements.specs.declared.element.Element.TheVariants.{Request, Expression, ExpressionType, RequestProgress, Enabled, InputSerialization, CompressionType, CsvInput, AllowQuotedRecordDelimiter, Comments, InputFieldDelimiter, FileHeaderInfo, InputQuoteCharacter, InputQuoteEscapeCharacter, InputRecordDelimiter, JsonInput, JsonType, ParquetInput, OutputSerialization, CsvOutput, OutputFieldDelimiter, OutputQuoteCharacter, OutputQuoteEscapeCharacter, QuoteFields, CsvRecordDelimiter, JsonOutput, JsonRecordDelimiter, ScanRange, Start, End}
@@ -24,7 +24,7 @@ use Rattle.select_request.specs.declared.request.Delimiter.TheVariants.{One, Two
 use Rattle.select_request.specs.declared.request.Header.{Header}
 use Rattle.select_request.specs.declared.request.Header.TheVariants.{Without, Ignore, Use}
 use Rattle.select_request.specs.declared.request.Input.{Input}
-use Rattle.select_request.specs.declared.request.Input.TheVariants.{Csv as CsvObject, JsonLines, Parquet}
+use Rattle.select_request.specs.declared.request.Input.TheVariants.{Csv as CsvObject, JsonLines, JsonDocument, Parquet}
 use Rattle.select_request.specs.declared.request.Output.{Output}
 use Rattle.select_request.specs.declared.request.Output.TheVariants.{Csv as CsvReply, Json}
 use Rattle.select_request.specs.declared.request.ScanRange.{ScanRange as Range}
@@ -54,6 +54,7 @@ csv_input_tree csv = node CsvInput
 abbrev input_tree : Input → Tree
 input_tree (CsvObject csv) = csv_input_tree csv
 input_tree JsonLines = node JsonInput (tree (with_text JsonType (codes "LINES")) none)
+input_tree JsonDocument = node JsonInput (tree (with_text JsonType (codes "DOCUMENT")) none)
 input_tree Parquet = node ParquetInput none
 
 abbrev csv_output_tree : CsvOutputSettings → Tree
@@ -101,6 +102,14 @@ parts_are x p JsonLines (Json d) None = refl
 parts_are x p JsonLines (Json d) (Some (Between a b)) = refl
 parts_are x p JsonLines (Json d) (Some (From a)) = refl
 parts_are x p JsonLines (Json d) (Some (Last b)) = refl
+parts_are x p JsonDocument (CsvReply out) None = refl
+parts_are x p JsonDocument (CsvReply out) (Some (Between a b)) = refl
+parts_are x p JsonDocument (CsvReply out) (Some (From a)) = refl
+parts_are x p JsonDocument (CsvReply out) (Some (Last b)) = refl
+parts_are x p JsonDocument (Json d) None = refl
+parts_are x p JsonDocument (Json d) (Some (Between a b)) = refl
+parts_are x p JsonDocument (Json d) (Some (From a)) = refl
+parts_are x p JsonDocument (Json d) (Some (Last b)) = refl
 parts_are x p Parquet (CsvReply out) None = refl
 parts_are x p Parquet (CsvReply out) (Some (Between a b)) = refl
 parts_are x p Parquet (CsvReply out) (Some (From a)) = refl
@@ -127,6 +136,14 @@ each_stands x p JsonLines (Json d) None = refl
 each_stands x p JsonLines (Json d) (Some (Between a b)) = refl
 each_stands x p JsonLines (Json d) (Some (From a)) = refl
 each_stands x p JsonLines (Json d) (Some (Last b)) = refl
+each_stands x p JsonDocument (CsvReply out) None = refl
+each_stands x p JsonDocument (CsvReply out) (Some (Between a b)) = refl
+each_stands x p JsonDocument (CsvReply out) (Some (From a)) = refl
+each_stands x p JsonDocument (CsvReply out) (Some (Last b)) = refl
+each_stands x p JsonDocument (Json d) None = refl
+each_stands x p JsonDocument (Json d) (Some (Between a b)) = refl
+each_stands x p JsonDocument (Json d) (Some (From a)) = refl
+each_stands x p JsonDocument (Json d) (Some (Last b)) = refl
 each_stands x p Parquet (CsvReply out) None = refl
 each_stands x p Parquet (CsvReply out) (Some (Between a b)) = refl
 each_stands x p Parquet (CsvReply out) (Some (From a)) = refl
@@ -199,6 +216,7 @@ csv_input_reads csv h = (
 input_reads : (i : Input) → is_input i ≡ true → TreeReads (input_tree i)
 input_reads (CsvObject csv) h = csv_input_reads csv (csv_input_holds csv h)
 input_reads JsonLines h = (characters_read (codes "LINES") refl, tt)
+input_reads JsonDocument h = (characters_read (codes "DOCUMENT") refl, tt)
 input_reads Parquet h = tt
 
 csv_output_reads : (csv : CsvOutputSettings) → CsvOutputHolds csv → TreeReads (csv_output_tree csv)

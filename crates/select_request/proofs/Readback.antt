@@ -1,14 +1,14 @@
 -- Each value is read back from its text.
-use Rattle.std.specs.Prelude.{◌≡◌, ℕ, ◌^◌, ◌<◌, Bool, true, false, nat_lt, nat_le, ◌&&◌, ◌==◌, List, [], ◌∷◌, length, None, Some, decimal, refl}
+use Rattle.std.specs.Prelude.{◌≡◌, ℕ, ◌^◌, ◌<◌, Bool, true, false, nat_lt, nat_le, ◌&&◌, ◌==◌, not, List, [], ◌∷◌, length, None, Some, decimal, refl}
 use Rattle.std.proofs.Common.{arith}
-use Rattle.std.proofs.lemmas.Bool.{cond-true, ltb-true}
+use Rattle.std.proofs.lemmas.Bool.{cond-true, and_from, ltb-true}
 use Rattle.std.proofs.lemmas.Bool.Decides.{nat_tests}
 use Rattle.std.proofs.lemmas.Fmt.{digits_value-decimal, digits_decimal, decimal_nonempty}
 use Rattle.std.specs.Str.{all_ascii_digits}
 use Rattle.std.specs.Str.Parse.{digits_value}
-use Rattle.select_request.specs.Values.{is_word, is_character, is_digits, truth_of, header_of, quoting_of, character_of, one_of, one_or_two_of, whole_number_of, range_of}
+use Rattle.select_request.specs.Values.{is_word, is_character, is_digits, truth_of, header_of, quoting_of, character_of, input_delimiter_of, output_delimiter_of, whole_number_of, range_of}
 use Rattle.select_request.specs.Printed.{truth_text, header_text, quoting_text, delimiter_text}
-use Rattle.select_request.specs.Printable.{is_delimiter, is_one, is_range}
+use Rattle.select_request.specs.Printable.{is_delimiter, is_varied, is_range}
 use Rattle.select_request.proofs.Printables.{and_left, and_right}
 use Rattle.select_request.proofs.WholeNumber.{own}
 use Rattle.select_request.proofs.Lookups.{of_start, of_end}
@@ -38,13 +38,14 @@ quoting_read false = refl
 pub character_read : (b : ℕ) → is_character b ≡ true → character_of (b ∷ []) ≡ Some b
 character_read b h = cond-true (is_character b) (Some b) None h
 
-pub one_read : (d : Delimiter) → is_delimiter d ≡ true → is_one d ≡ true → one_of (delimiter_text d) ≡ Some d
-one_read (One a) h one = cond-true (is_character a) (Some (One a)) None h
-one_read (Two a b) h one = absurd ((λ (e : false ≡ true). let no : ⊥ = cc in no) one)
+pub input_delimiter_read : (d : Delimiter) → is_delimiter d ≡ true → is_varied d ≡ true → input_delimiter_of (delimiter_text d) ≡ Some d
+input_delimiter_read (One a) h v = cond-true (is_character a) (Some (One a)) None h
+input_delimiter_read (Two a b) h v =
+    cond-true (is_character a && is_character b && not (a == b)) (Some (Two a b)) None (and_from (is_character a && is_character b) (not (a == b)) h v)
 
-pub one_or_two_read : (d : Delimiter) → is_delimiter d ≡ true → one_or_two_of (delimiter_text d) ≡ Some d
-one_or_two_read (One a) h = cond-true (is_character a) (Some (One a)) None h
-one_or_two_read (Two a b) h = cond-true (is_character a && is_character b) (Some (Two a b)) None h
+pub output_delimiter_read : (d : Delimiter) → is_delimiter d ≡ true → output_delimiter_of (delimiter_text d) ≡ Some d
+output_delimiter_read (One a) h = cond-true (is_character a) (Some (One a)) None h
+output_delimiter_read (Two a b) h = cond-true (is_character a && is_character b) (Some (Two a b)) None h
 
 digits_are_digits : (text : List ℕ) → all_ascii_digits text ≡ true → 0 < length text → is_digits text ≡ true
 digits_are_digits [] h some = absurd (omega arith)

@@ -1,12 +1,12 @@
 -- The elements of a printed body pass all checks, and spell the request.
-use Rattle.std.specs.Prelude.{◌≡◌, ℕ, ◌+◌, Bool, true, false, nat_lt, ◌&&◌, not, List, [], ◌∷◌, Option, None, Some, is_some, unwrap_or, if◌then◌else◌, refl}
+use Rattle.std.specs.Prelude.{◌≡◌, ℕ, ◌+◌, Bool, true, false, nat_lt, ◌&&◌, List, [], ◌∷◌, Option, None, Some, is_some, unwrap_or, if◌then◌else◌, refl}
 use Rattle.std.proofs.Common.{sym, ◌∙◌, ap, subst}
-use Rattle.select_request.specs.Values.{is_word, is_character, truth_of, header_of, quoting_of, character_of, one_of, one_or_two_of, range_of, input_is_apart, output_is_apart}
+use Rattle.select_request.specs.Values.{is_word, is_character, truth_of, header_of, quoting_of, json_of, character_of, input_delimiter_of, output_delimiter_of, range_of, allows_range, input_is_apart, output_is_apart}
 use Rattle.select_request.specs.Request.{text_in, value_at, comma, double_quote, number_sign, line_feed, request_from}
 use Rattle.select_request.specs.Checks.{checks, fits_where_there, is_met, first_unmet, first_fault}
 use Rattle.select_request.specs.Printed.{truth_text, header_text, quoting_text, delimiter_text}
 use Rattle.select_request.proofs.PrintedElements.{found_of}
-use Rattle.select_request.specs.Printable.{is_delimiter, is_one, is_csv_input, is_csv_output, is_input, is_output, is_range, allows_range, is_range_of, is_printable}
+use Rattle.select_request.specs.Printable.{is_delimiter, is_varied, is_csv_input, is_csv_output, is_input, is_output, is_range, is_range_of, is_printable}
 use Rattle.select_request.specs.declared.checks.Check.{Check}
 use Rattle.select_request.specs.declared.checks.Check.TheVariants.{Holds, Fits, HasFormat, HasOneFormat, InputIsApart, OutputIsApart, IsRange, AllowsRange}
 use Rattle.request_elements.specs.declared.element.Element.{Element}
@@ -17,7 +17,7 @@ use Rattle.select_request.specs.declared.request.CsvOutput.{CsvOutput as CsvOutp
 use Rattle.select_request.specs.declared.request.Delimiter.TheVariants.{One}
 use Rattle.select_request.specs.declared.request.Header.TheVariants.{Without}
 use Rattle.select_request.specs.declared.request.Input.{Input}
-use Rattle.select_request.specs.declared.request.Input.TheVariants.{Csv as CsvObject, JsonLines, Parquet}
+use Rattle.select_request.specs.declared.request.Input.TheVariants.{Csv as CsvObject, JsonLines, JsonDocument, Parquet}
 use Rattle.select_request.specs.declared.request.Output.{Output}
 use Rattle.select_request.specs.declared.request.Output.TheVariants.{Csv as CsvReply, Json}
 use Rattle.select_request.specs.declared.request.ScanRange.{ScanRange as Range}
@@ -25,7 +25,7 @@ use Rattle.select_request.specs.declared.request.SelectRequest.{SelectRequest}
 use mathlib.Core.Path.{fun_ext}
 use Rattle.select_request.proofs.Lookups.{wanted, found_is}
 use Rattle.select_request.proofs.Printables.{and_left, and_right, Printable, printable}
-use Rattle.select_request.proofs.Readback.{truth_read, header_read, quoting_read, character_read, one_read, one_or_two_read, range_read}
+use Rattle.select_request.proofs.Readback.{truth_read, header_read, quoting_read, character_read, input_delimiter_read, output_delimiter_read, range_read}
 
 -- ---- checks and values by the texts alone
 
@@ -40,7 +40,7 @@ csv_input_by t = record {
   header = value_at header_of Without (t FileHeaderInfo);
   quote = value_at character_of double_quote (t InputQuoteCharacter);
   escape = value_at character_of double_quote (t InputQuoteEscapeCharacter);
-  delimiter = value_at one_of (One line_feed) (t InputRecordDelimiter);
+  delimiter = value_at input_delimiter_of (One line_feed) (t InputRecordDelimiter);
 }
 
 abbrev csv_output_by : Texts → CsvOutputSettings
@@ -49,14 +49,14 @@ csv_output_by t = record {
   quote = value_at character_of double_quote (t OutputQuoteCharacter);
   escape = value_at character_of double_quote (t OutputQuoteEscapeCharacter);
   always = value_at quoting_of false (t QuoteFields);
-  delimiter = value_at one_or_two_of (One line_feed) (t CsvRecordDelimiter);
+  delimiter = value_at output_delimiter_of (One line_feed) (t CsvRecordDelimiter);
 }
 
 abbrev input_by : Texts → Input
-input_by t = if is_some (t CsvInput) then CsvObject (csv_input_by t) else if is_some (t JsonInput) then JsonLines else Parquet
+input_by t = if is_some (t CsvInput) then CsvObject (csv_input_by t) else if is_some (t JsonInput) then value_at json_of JsonLines (t JsonType) else Parquet
 
 abbrev output_by : Texts → Output
-output_by t = if is_some (t CsvOutput) then CsvReply (csv_output_by t) else Json (value_at one_or_two_of (One line_feed) (t JsonRecordDelimiter))
+output_by t = if is_some (t CsvOutput) then CsvReply (csv_output_by t) else Json (value_at output_delimiter_of (One line_feed) (t JsonRecordDelimiter))
 
 abbrev range_by : Texts → Option Range
 range_by t = if is_some (t ScanRange) then range_of (t Start) (t End) else None
@@ -85,7 +85,7 @@ is_met_by t (HasOneFormat e) = nat_lt (formats_by t e) 2
 is_met_by t InputIsApart = input_is_apart (csv_input_by t)
 is_met_by t OutputIsApart = output_is_apart (csv_output_by t)
 is_met_by t IsRange = if is_some (t ScanRange) then is_some (range_by t) else true
-is_met_by t AllowsRange = if is_some (t ScanRange) then not (value_at truth_of false (t AllowQuotedRecordDelimiter)) else true
+is_met_by t AllowsRange = if is_some (t ScanRange) then allows_range (input_by t) else true
 
 abbrev texts_of : List Found → Texts
 texts_of found e = text_in e found
@@ -118,7 +118,7 @@ pub record CsvInputHolds (csv : CsvInputSettings) : Type 0 where
   pub quote : is_character csv.quote ≡ true
   pub escape : is_character csv.escape ≡ true
   pub delimiter : is_delimiter csv.delimiter ≡ true
-  pub one : is_one csv.delimiter ≡ true
+  pub varied : is_varied csv.delimiter ≡ true
   pub apart : input_is_apart csv ≡ true
 
 pub csv_input_holds : (csv : CsvInputSettings) → is_csv_input csv ≡ true → CsvInputHolds csv
@@ -128,9 +128,9 @@ csv_input_holds csv h =
     let q = is_character csv.quote in
     let e = is_character csv.escape in
     let d = is_delimiter csv.delimiter in
-    let o = is_one csv.delimiter in
-    let h6 = and_left (c && f && q && e && d && o) (input_is_apart csv) h in
-    let h5 = and_left (c && f && q && e && d) o h6 in
+    let v = is_varied csv.delimiter in
+    let h6 = and_left (c && f && q && e && d && v) (input_is_apart csv) h in
+    let h5 = and_left (c && f && q && e && d) v h6 in
     let h4 = and_left (c && f && q && e) d h5 in
     let h3 = and_left (c && f && q) e h4 in
     let h2 = and_left (c && f) q h3 in
@@ -140,8 +140,8 @@ csv_input_holds csv h =
       quote = and_right (c && f) q h3;
       escape = and_right (c && f && q) e h4;
       delimiter = and_right (c && f && q && e) d h5;
-      one = and_right (c && f && q && e && d) o h6;
-      apart = and_right (c && f && q && e && d && o) (input_is_apart csv) h;
+      varied = and_right (c && f && q && e && d) v h6;
+      apart = and_right (c && f && q && e && d && v) (input_is_apart csv) h;
     }
 
 pub record CsvOutputHolds (csv : CsvOutputSettings) : Type 0 where
@@ -184,7 +184,7 @@ csv_input_read x p csv o g h = λ i. record {
   header = read_as header_of Without (header_text csv.header) csv.header (header_read csv.header) i;
   quote = read_as character_of double_quote (csv.quote ∷ []) csv.quote (character_read csv.quote h.quote) i;
   escape = read_as character_of double_quote (csv.escape ∷ []) csv.escape (character_read csv.escape h.escape) i;
-  delimiter = read_as one_of (One line_feed) (delimiter_text csv.delimiter) csv.delimiter (one_read csv.delimiter h.delimiter h.one) i;
+  delimiter = read_as input_delimiter_of (One line_feed) (delimiter_text csv.delimiter) csv.delimiter (input_delimiter_read csv.delimiter h.delimiter h.varied) i;
 }
 
 csv_output_read : (x : List ℕ) (p : Bool) (i : Input) (csv : CsvOutputSettings) (g : Option Range) → CsvOutputHolds csv → csv_output_by (texts x p i (CsvReply csv) g) ≡ csv
@@ -193,17 +193,26 @@ csv_output_read x p i csv g h = λ k. record {
   quote = read_as character_of double_quote (csv.quote ∷ []) csv.quote (character_read csv.quote h.quote) k;
   escape = read_as character_of double_quote (csv.escape ∷ []) csv.escape (character_read csv.escape h.escape) k;
   always = read_as quoting_of false (quoting_text csv.always) csv.always (quoting_read csv.always) k;
-  delimiter = read_as one_or_two_of (One line_feed) (delimiter_text csv.delimiter) csv.delimiter (one_or_two_read csv.delimiter h.delimiter) k;
+  delimiter = read_as output_delimiter_of (One line_feed) (delimiter_text csv.delimiter) csv.delimiter (output_delimiter_read csv.delimiter h.delimiter) k;
 }
+
+json_input_read : (x : List ℕ) (p : Bool) (o : Output) (g : Option Range) → input_by (texts x p JsonLines o g) ≡ JsonLines
+unfolding is_word
+json_input_read x p o g = refl
+
+document_read : (x : List ℕ) (p : Bool) (o : Output) (g : Option Range) → input_by (texts x p JsonDocument o g) ≡ JsonDocument
+unfolding is_word
+document_read x p o g = refl
 
 input_read : (x : List ℕ) (p : Bool) (i : Input) (o : Output) (g : Option Range) → is_input i ≡ true → input_by (texts x p i o g) ≡ i
 input_read x p (CsvObject csv) o g h = ap CsvObject (csv_input_read x p csv o g (csv_input_holds csv h))
-input_read x p JsonLines o g h = refl
+input_read x p JsonLines o g h = json_input_read x p o g
+input_read x p JsonDocument o g h = document_read x p o g
 input_read x p Parquet o g h = refl
 
 output_read : (x : List ℕ) (p : Bool) (i : Input) (o : Output) (g : Option Range) → is_output o ≡ true → output_by (texts x p i o g) ≡ o
 output_read x p i (CsvReply csv) g h = ap CsvReply (csv_output_read x p i csv g (csv_output_holds csv h))
-output_read x p i (Json d) g h = ap Json (read_as one_or_two_of (One line_feed) (delimiter_text d) d (one_or_two_read d h))
+output_read x p i (Json d) g h = ap Json (read_as output_delimiter_of (One line_feed) (delimiter_text d) d (output_delimiter_read d h))
 
 range_is_read : (x : List ℕ) (p : Bool) (i : Input) (o : Output) (g : Option Range) → is_range_of i g ≡ true → range_by (texts x p i o g) ≡ g
 range_is_read x p i o None h = refl
@@ -232,62 +241,74 @@ module _ (x : List ℕ) (p : Bool) (o : Output) (g : Option Range) where
   input_format : (i : Input) → is_met_by (texts x p i o g) (HasFormat InputSerialization) ≡ true
   input_format (CsvObject csv) = refl
   input_format JsonLines = refl
+  input_format JsonDocument = refl
   input_format Parquet = refl
 
   one_input_format : (i : Input) → is_met_by (texts x p i o g) (HasOneFormat InputSerialization) ≡ true
   one_input_format (CsvObject csv) = refl
   one_input_format JsonLines = refl
+  one_input_format JsonDocument = refl
   one_input_format Parquet = refl
 
   quoted_fits : (i : Input) → is_met_by (texts x p i o g) (Fits AllowQuotedRecordDelimiter) ≡ true
   quoted_fits (CsvObject csv) = ap is_some (truth_read csv.quoted_delimiters)
   quoted_fits JsonLines = refl
+  quoted_fits JsonDocument = refl
   quoted_fits Parquet = refl
 
   comment_fits : (i : Input) → is_input i ≡ true → is_met_by (texts x p i o g) (Fits Comments) ≡ true
   comment_fits (CsvObject csv) h = ap is_some (character_read csv.comment (csv_input_holds csv h).comment)
   comment_fits JsonLines h = refl
+  comment_fits JsonDocument h = refl
   comment_fits Parquet h = refl
 
   input_field_fits : (i : Input) → is_input i ≡ true → is_met_by (texts x p i o g) (Fits InputFieldDelimiter) ≡ true
   input_field_fits (CsvObject csv) h = ap is_some (character_read csv.field (csv_input_holds csv h).field)
   input_field_fits JsonLines h = refl
+  input_field_fits JsonDocument h = refl
   input_field_fits Parquet h = refl
 
   header_fits : (i : Input) → is_met_by (texts x p i o g) (Fits FileHeaderInfo) ≡ true
   header_fits (CsvObject csv) = ap is_some (header_read csv.header)
   header_fits JsonLines = refl
+  header_fits JsonDocument = refl
   header_fits Parquet = refl
 
   input_quote_fits : (i : Input) → is_input i ≡ true → is_met_by (texts x p i o g) (Fits InputQuoteCharacter) ≡ true
   input_quote_fits (CsvObject csv) h = ap is_some (character_read csv.quote (csv_input_holds csv h).quote)
   input_quote_fits JsonLines h = refl
+  input_quote_fits JsonDocument h = refl
   input_quote_fits Parquet h = refl
 
   input_escape_fits : (i : Input) → is_input i ≡ true → is_met_by (texts x p i o g) (Fits InputQuoteEscapeCharacter) ≡ true
   input_escape_fits (CsvObject csv) h = ap is_some (character_read csv.escape (csv_input_holds csv h).escape)
   input_escape_fits JsonLines h = refl
+  input_escape_fits JsonDocument h = refl
   input_escape_fits Parquet h = refl
 
   input_delimiter_fits : (i : Input) → is_input i ≡ true → is_met_by (texts x p i o g) (Fits InputRecordDelimiter) ≡ true
-  input_delimiter_fits (CsvObject csv) h = ap is_some (one_read csv.delimiter (csv_input_holds csv h).delimiter (csv_input_holds csv h).one)
+  input_delimiter_fits (CsvObject csv) h = ap is_some (input_delimiter_read csv.delimiter (csv_input_holds csv h).delimiter (csv_input_holds csv h).varied)
   input_delimiter_fits JsonLines h = refl
+  input_delimiter_fits JsonDocument h = refl
   input_delimiter_fits Parquet h = refl
 
   input_apart : (i : Input) → is_input i ≡ true → is_met_by (texts x p i o g) InputIsApart ≡ true
   input_apart (CsvObject csv) h = ap input_is_apart (csv_input_read x p csv o g (csv_input_holds csv h)) ∙ (csv_input_holds csv h).apart
   input_apart JsonLines h = refl
+  input_apart JsonDocument h = refl
   input_apart Parquet h = refl
 
   holds_type : (i : Input) → is_met_by (texts x p i o g) (Holds JsonInput JsonType) ≡ true
   holds_type (CsvObject csv) = refl
   holds_type JsonLines = refl
+  holds_type JsonDocument = refl
   holds_type Parquet = refl
 
   type_fits : (i : Input) → is_met_by (texts x p i o g) (Fits JsonType) ≡ true
   unfolding is_word
   type_fits (CsvObject csv) = refl
   type_fits JsonLines = refl
+  type_fits JsonDocument = refl
   type_fits Parquet = refl
 
 module _ (x : List ℕ) (p : Bool) (i : Input) (g : Option Range) where
@@ -316,7 +337,7 @@ module _ (x : List ℕ) (p : Bool) (i : Input) (g : Option Range) where
   quoting_fits (Json d) = refl
 
   csv_delimiter_fits : (o : Output) → is_output o ≡ true → is_met_by (texts x p i o g) (Fits CsvRecordDelimiter) ≡ true
-  csv_delimiter_fits (CsvReply csv) h = ap is_some (one_or_two_read csv.delimiter (csv_output_holds csv h).delimiter)
+  csv_delimiter_fits (CsvReply csv) h = ap is_some (output_delimiter_read csv.delimiter (csv_output_holds csv h).delimiter)
   csv_delimiter_fits (Json d) h = refl
 
   output_apart : (o : Output) → is_output o ≡ true → is_met_by (texts x p i o g) OutputIsApart ≡ true
@@ -325,18 +346,16 @@ module _ (x : List ℕ) (p : Bool) (i : Input) (g : Option Range) where
 
   json_delimiter_fits : (o : Output) → is_output o ≡ true → is_met_by (texts x p i o g) (Fits JsonRecordDelimiter) ≡ true
   json_delimiter_fits (CsvReply csv) h = refl
-  json_delimiter_fits (Json d) h = ap is_some (one_or_two_read d h)
+  json_delimiter_fits (Json d) h = ap is_some (output_delimiter_read d h)
 
 range_met : (x : List ℕ) (p : Bool) (i : Input) (o : Output) (g : Option Range) → is_range_of i g ≡ true → is_met_by (texts x p i o g) IsRange ≡ true
 range_met x p i o None h = refl
 range_met x p i o (Some range) h = ap is_some (range_read range (and_left (is_range range) (allows_range i) h))
 
-range_allowed : (x : List ℕ) (p : Bool) (i : Input) (o : Output) (g : Option Range) → is_range_of i g ≡ true → is_met_by (texts x p i o g) AllowsRange ≡ true
-range_allowed x p i o None h = refl
-range_allowed x p (CsvObject csv) o (Some range) h =
-    ap not (read_as truth_of false (truth_text csv.quoted_delimiters) csv.quoted_delimiters (truth_read csv.quoted_delimiters)) ∙ and_right (is_range range) (not csv.quoted_delimiters) h
-range_allowed x p JsonLines o (Some range) h = refl
-range_allowed x p Parquet o (Some range) h = refl
+range_allowed : (x : List ℕ) (p : Bool) (i : Input) (o : Output) (g : Option Range) → is_input i ≡ true → is_range_of i g ≡ true → is_met_by (texts x p i o g) AllowsRange ≡ true
+range_allowed x p i o None valid h = refl
+range_allowed x p i o (Some range) valid h =
+    ap allows_range (input_read x p i o (Some range) valid) ∙ and_right (is_range range) (allows_range i) h
 
 all_met : (r : SelectRequest) → Printable r → AllMet (wanted r) checks
 unfolding checks is_word
@@ -401,7 +420,7 @@ all_met r h =
                                                           output_apart x p i g o h.output,
                                                           (
                                                             json_delimiter_fits x p i g o h.output,
-                                                            (range_met x p i o g h.range, (range_allowed x p i o g h.range, tt)),
+                                                            (range_met x p i o g h.range, (range_allowed x p i o g h.input h.range, tt)),
                                                           ),
                                                         ),
                                                       ),

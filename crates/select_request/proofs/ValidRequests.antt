@@ -1,25 +1,25 @@
 -- The request of elements that pass all checks is valid.
-use Rattle.std.specs.Prelude.{◌≡◌, ℕ, zero, suc, ◌^◌, ◌<◌, Bool, true, false, nat_lt, nat_le, ◌&&◌, ◌==◌, not, List, [], ◌∷◌, Option, None, Some, is_some, unwrap_or, if◌then◌else◌, refl}
+use Rattle.std.specs.Prelude.{◌≡◌, ℕ, zero, suc, ◌^◌, ◌<◌, Bool, true, false, nat_lt, nat_le, ◌&&◌, ◌==◌, not, List, [], ◌∷◌, Option, None, Some, is_some, unwrap_or, codes, if◌then◌else◌, refl}
 use Rattle.std.proofs.Common.{◌∙◌, ap, subst, arith}
 use Rattle.std.proofs.lemmas.Bool.{false≢true, and_from, ltb-true}
 use Rattle.std.proofs.lemmas.Bool.Decides.{nat_tests}
 use Rattle.std.specs.Str.Parse.{digits_value}
-use Rattle.select_request.specs.Values.{is_character, is_digits, truth_of, character_of, one_of, one_or_two_of, whole_number_of, between, from_start, last_bytes, range_of, input_is_apart, output_is_apart}
+use Rattle.select_request.specs.Values.{is_word, is_character, is_digits, json_of, character_of, input_delimiter_of, output_delimiter_of, whole_number_of, between, from_start, last_bytes, range_of, allows_range, input_is_apart, output_is_apart}
 use Rattle.select_request.specs.Request.{has, text_in, value_at, value_in, comma, double_quote, number_sign, line_feed, csv_input_from, input_from, csv_output_from, output_from, range_from, request_from}
 use Rattle.select_request.specs.Checks.{checks, fits_where_there, is_met, fault_at, first_unmet, first_fault}
-use Rattle.select_request.specs.Printable.{is_delimiter, is_one, is_csv_input, is_csv_output, is_input, is_output, is_range, allows_range, is_range_of, is_valid}
+use Rattle.select_request.specs.Printable.{is_delimiter, is_varied, is_csv_input, is_csv_output, is_input, is_output, is_range, is_range_of, is_valid}
 use Rattle.select_request.specs.declared.checks.Check.{Check}
 use Rattle.select_request.specs.declared.checks.Check.TheVariants.{Fits, InputIsApart, OutputIsApart, AllowsRange}
-use Rattle.request_elements.specs.declared.element.Element.TheVariants.{CsvInput, AllowQuotedRecordDelimiter, Comments, InputFieldDelimiter, InputQuoteCharacter, InputQuoteEscapeCharacter, InputRecordDelimiter, JsonInput, CsvOutput, OutputFieldDelimiter, OutputQuoteCharacter, OutputQuoteEscapeCharacter, CsvRecordDelimiter, JsonRecordDelimiter, ScanRange, Start, End}
+use Rattle.request_elements.specs.declared.element.Element.TheVariants.{CsvInput, Comments, InputFieldDelimiter, InputQuoteCharacter, InputQuoteEscapeCharacter, InputRecordDelimiter, JsonInput, JsonType, CsvOutput, OutputFieldDelimiter, OutputQuoteCharacter, OutputQuoteEscapeCharacter, CsvRecordDelimiter, JsonRecordDelimiter, ScanRange, Start, End}
 use Rattle.request_elements.specs.declared.found.Found.{Found}
 use Rattle.select_request.specs.declared.request.Delimiter.{Delimiter}
 use Rattle.select_request.specs.declared.request.Delimiter.TheVariants.{One, Two}
-use Rattle.select_request.specs.declared.request.Input.TheVariants.{Csv as CsvObject, JsonLines, Parquet}
+use Rattle.select_request.specs.declared.request.Input.TheVariants.{Csv as CsvObject, JsonLines, JsonDocument, Parquet}
 use Rattle.select_request.specs.declared.request.Output.TheVariants.{Csv as CsvReply, Json}
 use Rattle.select_request.specs.declared.request.ScanRange.{ScanRange as Range}
 use Rattle.select_request.specs.declared.request.ScanRange.TheVariants.{Between, From, Last}
 use Rattle.select_request.specs.declared.request.SelectRequest.{SelectRequest}
-use Rattle.select_request.proofs.Printables.{and_right}
+use Rattle.select_request.proofs.Printables.{and_left, and_right}
 
 -- ---- the checks that are met
 
@@ -106,37 +106,42 @@ character_in : (text : Option (List ℕ)) (default : ℕ) → is_character defau
 character_in None default d h = d
 character_in (Some text) default d h = character_fits text default h
 
-one_fits : (text : List ℕ) (default : Delimiter) → is_some (one_of text) ≡ true
-    → (is_delimiter (unwrap_or (one_of text) default) ≡ true) × (is_one (unwrap_or (one_of text) default) ≡ true)
-one_fits [] default h = absurd (false≢true h)
-one_fits (b ∷ []) default h =
+input_delimiter_fits : (text : List ℕ) (default : Delimiter) → is_some (input_delimiter_of text) ≡ true
+    → (is_delimiter (unwrap_or (input_delimiter_of text) default) ≡ true) × (is_varied (unwrap_or (input_delimiter_of text) default) ≡ true)
+input_delimiter_fits [] default h = absurd (false≢true h)
+input_delimiter_fits (b ∷ []) default h =
     let t = guarded (is_character b) (One b) h in
-    (ap is_delimiter (taken (is_character b) (One b) default t) ∙ t, ap is_one (taken (is_character b) (One b) default t))
-one_fits (b ∷ c ∷ text) default h = absurd (false≢true h)
+    (ap is_delimiter (taken (is_character b) (One b) default t) ∙ t, ap is_varied (taken (is_character b) (One b) default t))
+input_delimiter_fits (b ∷ c ∷ []) default h =
+    let characters = is_character b && is_character c in
+    let t = guarded (characters && not (b == c)) (Two b c) h in
+    let is = taken (characters && not (b == c)) (Two b c) default t in
+    (ap is_delimiter is ∙ and_left characters (not (b == c)) t, ap is_varied is ∙ and_right characters (not (b == c)) t)
+input_delimiter_fits (b ∷ c ∷ d ∷ text) default h = absurd (false≢true h)
 
-one_in : (text : Option (List ℕ)) → fits_where_there InputRecordDelimiter text ≡ true
-    → (is_delimiter (value_at one_of (One line_feed) text) ≡ true) × (is_one (value_at one_of (One line_feed) text) ≡ true)
-one_in None h = (refl, refl)
-one_in (Some text) h = one_fits text (One line_feed) h
+input_delimiter_in : (text : Option (List ℕ)) → fits_where_there InputRecordDelimiter text ≡ true
+    → (is_delimiter (value_at input_delimiter_of (One line_feed) text) ≡ true) × (is_varied (value_at input_delimiter_of (One line_feed) text) ≡ true)
+input_delimiter_in None h = (refl, refl)
+input_delimiter_in (Some text) h = input_delimiter_fits text (One line_feed) h
 
-two_fits : (text : List ℕ) (default : Delimiter) → is_some (one_or_two_of text) ≡ true → is_delimiter (unwrap_or (one_or_two_of text) default) ≡ true
-two_fits [] default h = absurd (false≢true h)
-two_fits (b ∷ []) default h =
+output_delimiter_fits : (text : List ℕ) (default : Delimiter) → is_some (output_delimiter_of text) ≡ true → is_delimiter (unwrap_or (output_delimiter_of text) default) ≡ true
+output_delimiter_fits [] default h = absurd (false≢true h)
+output_delimiter_fits (b ∷ []) default h =
     let t = guarded (is_character b) (One b) h in ap is_delimiter (taken (is_character b) (One b) default t) ∙ t
-two_fits (b ∷ c ∷ []) default h =
+output_delimiter_fits (b ∷ c ∷ []) default h =
     let t = guarded (is_character b && is_character c) (Two b c) h in ap is_delimiter (taken (is_character b && is_character c) (Two b c) default t) ∙ t
-two_fits (b ∷ c ∷ d ∷ text) default h = absurd (false≢true h)
+output_delimiter_fits (b ∷ c ∷ d ∷ text) default h = absurd (false≢true h)
 
-two_in : (text : Option (List ℕ)) → fits_where_there CsvRecordDelimiter text ≡ true → is_delimiter (value_at one_or_two_of (One line_feed) text) ≡ true
-two_in None h = refl
-two_in (Some text) h = two_fits text (One line_feed) h
+output_delimiter_in : (text : Option (List ℕ)) → fits_where_there CsvRecordDelimiter text ≡ true → is_delimiter (value_at output_delimiter_of (One line_feed) text) ≡ true
+output_delimiter_in None h = refl
+output_delimiter_in (Some text) h = output_delimiter_fits text (One line_feed) h
 
 csv_input_valid : (found : List Found) → Met found → is_csv_input (csv_input_from found) ≡ true
 csv_input_valid found m =
     let csv = csv_input_from found in
-    let delimiter = one_in (text_in InputRecordDelimiter found) m.input_delimiter in
+    let delimiter = input_delimiter_in (text_in InputRecordDelimiter found) m.input_delimiter in
     and_from _ (input_is_apart csv)
-    (and_from _ (is_one csv.delimiter)
+    (and_from _ (is_varied csv.delimiter)
     (and_from _ (is_delimiter csv.delimiter)
     (and_from _ (is_character csv.escape)
     (and_from _ (is_character csv.quote)
@@ -159,18 +164,29 @@ csv_output_valid found m =
     (character_in (text_in OutputFieldDelimiter found) comma refl m.output_field)
     (character_in (text_in OutputQuoteCharacter found) double_quote refl m.output_quote))
     (character_in (text_in OutputQuoteEscapeCharacter found) double_quote refl m.output_escape))
-    (two_in (text_in CsvRecordDelimiter found) m.csv_delimiter))
+    (output_delimiter_in (text_in CsvRecordDelimiter found) m.csv_delimiter))
     m.output_apart
 
-input_by_formats : (csv json : Bool) (found : List Found) → Met found → is_input (if csv then CsvObject (csv_input_from found) else if json then JsonLines else Parquet) ≡ true
+-- a JSON object is LINES or DOCUMENT, and either is valid
+json_input : (lines document : Bool) → is_input (unwrap_or (if lines then Some JsonLines else if document then Some JsonDocument else None) JsonLines) ≡ true
+json_input true document = refl
+json_input false true = refl
+json_input false false = refl
+
+json_valid : (text : Option (List ℕ)) → is_input (value_at json_of JsonLines text) ≡ true
+json_valid None = refl
+json_valid (Some text) = json_input (is_word (codes "LINES") text) (is_word (codes "DOCUMENT") text)
+
+input_by_formats : (csv json : Bool) (found : List Found) → Met found
+    → is_input (if csv then CsvObject (csv_input_from found) else if json then value_in json_of JsonLines JsonType found else Parquet) ≡ true
 input_by_formats true json found m = csv_input_valid found m
-input_by_formats false true found m = refl
+input_by_formats false true found m = json_valid (text_in JsonType found)
 input_by_formats false false found m = refl
 
 output_by_format : (csv : Bool) (found : List Found) → Met found
-    → is_output (if csv then CsvReply (csv_output_from found) else Json (value_in one_or_two_of (One line_feed) JsonRecordDelimiter found)) ≡ true
+    → is_output (if csv then CsvReply (csv_output_from found) else Json (value_in output_delimiter_of (One line_feed) JsonRecordDelimiter found)) ≡ true
 output_by_format true found m = csv_output_valid found m
-output_by_format false found m = two_in (text_in JsonRecordDelimiter found) m.json_delimiter
+output_by_format false found m = output_delimiter_in (text_in JsonRecordDelimiter found) m.json_delimiter
 
 -- ---- ranges
 
@@ -224,18 +240,12 @@ range_valid (Some s) None g h = from_valid (whole_number_of s) g (number_small s
 range_valid None (Some e) g h = last_valid (whole_number_of e) g (number_small e) h
 range_valid (Some s) (Some e) g h = between_valid (whole_number_of s) (whole_number_of e) g (number_small e) h
 
-allows_by : (csv json : Bool) (found : List Found) → not (value_in truth_of false AllowQuotedRecordDelimiter found) ≡ true
-    → allows_range (if csv then CsvObject (csv_input_from found) else if json then JsonLines else Parquet) ≡ true
-allows_by true json found h = h
-allows_by false true found h = refl
-allows_by false false found h = refl
-
 range_by : (found : List Found) (b : Bool) (o : Option Range) → range_of (text_in Start found) (text_in End found) ≡ o
-    → (if b then not (value_in truth_of false AllowQuotedRecordDelimiter found) else true) ≡ true → is_range_of (input_from found) (if b then o else None) ≡ true
+    → (if b then allows_range (input_from found) else true) ≡ true → is_range_of (input_from found) (if b then o else None) ≡ true
 range_by found false o e a = refl
 range_by found true None e a = refl
 range_by found true (Some g) e a =
-    and_from (is_range g) (allows_range (input_from found)) (range_valid (text_in Start found) (text_in End found) g e) (allows_by (has CsvInput found) (has JsonInput found) found a)
+    and_from (is_range g) (allows_range (input_from found)) (range_valid (text_in Start found) (text_in End found) g e) a
 
 -- the request of elements that pass all checks is valid
 pub passing_is_valid : (found : List Found) → first_fault found ≡ None → is_valid (request_from found) ≡ true

@@ -1,8 +1,8 @@
 -- The checks on the elements found in a body, in the order in which they are made. The first that isn't
 -- met is the body's fault (Amazon S3 API Reference, SelectObjectContent, and its errors).
-use Rattle.std.specs.Prelude.{ℕ, ◌+◌, Bool, true, false, nat_lt, not, List, [], ◌∷◌, Option, None, Some, is_some, codes, if◌then◌else◌}
-use Rattle.select_request.specs.Values.{is_word, truth_of, header_of, quoting_of, character_of, one_of, one_or_two_of, input_is_apart, output_is_apart}
-use Rattle.select_request.specs.Request.{has, text_in, place_in, value_in, csv_input_from, csv_output_from, range_from}
+use Rattle.std.specs.Prelude.{ℕ, ◌+◌, Bool, true, nat_lt, List, [], ◌∷◌, Option, None, Some, is_some, codes, if◌then◌else◌}
+use Rattle.select_request.specs.Values.{is_word, truth_of, header_of, quoting_of, json_of, character_of, input_delimiter_of, output_delimiter_of, allows_range, input_is_apart, output_is_apart}
+use Rattle.select_request.specs.Request.{has, text_in, place_in, csv_input_from, input_from, csv_output_from, range_from}
 use Rattle.select_request.specs.declared.checks.Check.{Check}
 use Rattle.select_request.specs.declared.checks.Check.TheVariants.{Holds, Fits, HasFormat, HasOneFormat, InputIsApart, OutputIsApart, IsRange, AllowsRange}
 use Rattle.request_elements.specs.declared.element.Element.{Element}
@@ -44,14 +44,14 @@ fits InputFieldDelimiter text = is_some (character_of text)
 fits FileHeaderInfo text = is_some (header_of text)
 fits InputQuoteCharacter text = is_some (character_of text)
 fits InputQuoteEscapeCharacter text = is_some (character_of text)
-fits InputRecordDelimiter text = is_some (one_of text)
-fits JsonType text = is_word (codes "LINES") text
+fits InputRecordDelimiter text = is_some (input_delimiter_of text)
+fits JsonType text = is_some (json_of text)
 fits OutputFieldDelimiter text = is_some (character_of text)
 fits OutputQuoteCharacter text = is_some (character_of text)
 fits OutputQuoteEscapeCharacter text = is_some (character_of text)
 fits QuoteFields text = is_some (quoting_of text)
-fits CsvRecordDelimiter text = is_some (one_or_two_of text)
-fits JsonRecordDelimiter text = is_some (one_or_two_of text)
+fits CsvRecordDelimiter text = is_some (output_delimiter_of text)
+fits JsonRecordDelimiter text = is_some (output_delimiter_of text)
 fits e text = true
 
 -- an element that isn't there has no value to be checked
@@ -71,7 +71,7 @@ formats_in e found = counted CsvOutput found + counted JsonOutput found
 -- whether the elements found meet a check: where the first element is there, it holds the second; the
 -- element's text is one of its values; it holds a format; it holds no two; the characters of the
 -- object's CSV aren't in each other's way; nor those of the reply's; the range is one, where it is
--- there; where it is there, no quoted field may hold a record delimiter
+-- there; where it is there, the object's format allows it
 abbrev pub is_met : List Found → Check → Bool
 is_met found (Holds parent e) = if has parent found then has e found else true
 is_met found (Fits e) = fits_where_there e (text_in e found)
@@ -80,7 +80,7 @@ is_met found (HasOneFormat e) = nat_lt (formats_in e found) 2
 is_met found InputIsApart = input_is_apart (csv_input_from found)
 is_met found OutputIsApart = output_is_apart (csv_output_from found)
 is_met found IsRange = if has ScanRange found then is_some (range_from found) else true
-is_met found AllowsRange = if has ScanRange found then not (value_in truth_of false AllowQuotedRecordDelimiter found) else true
+is_met found AllowsRange = if has ScanRange found then allows_range (input_from found) else true
 
 -- the fault's kind
 abbrev pub code_of : Check → RequestFaultCode

@@ -1,14 +1,14 @@
 -- The requests that are printed: those whose values pass the checks that a body's do, and whose
 -- expression a body can hold.
-use Rattle.std.specs.Prelude.{ℕ, ◌^◌, Bool, true, false, nat_lt, nat_le, ◌&&◌, ◌==◌, not, List, length, Option, None, Some}
+use Rattle.std.specs.Prelude.{ℕ, ◌^◌, Bool, true, nat_lt, nat_le, ◌&&◌, ◌==◌, not, List, length, Option, None, Some}
 use Rattle.std.specs.List.{list_any}
-use Rattle.select_request.specs.Values.{is_character, input_is_apart, output_is_apart}
+use Rattle.select_request.specs.Values.{is_character, allows_range, input_is_apart, output_is_apart}
 use Rattle.select_request.specs.declared.request.CsvInput.{CsvInput}
 use Rattle.select_request.specs.declared.request.CsvOutput.{CsvOutput}
 use Rattle.select_request.specs.declared.request.Delimiter.{Delimiter}
 use Rattle.select_request.specs.declared.request.Delimiter.TheVariants.{One, Two}
 use Rattle.select_request.specs.declared.request.Input.{Input}
-use Rattle.select_request.specs.declared.request.Input.TheVariants.{Csv as CsvObject, JsonLines, Parquet}
+use Rattle.select_request.specs.declared.request.Input.TheVariants.{Csv as CsvObject, JsonLines, JsonDocument, Parquet}
 use Rattle.select_request.specs.declared.request.Output.{Output}
 use Rattle.select_request.specs.declared.request.Output.TheVariants.{Csv as CsvReply, Json}
 use Rattle.select_request.specs.declared.request.ScanRange.{ScanRange}
@@ -20,15 +20,15 @@ abbrev pub is_delimiter : Delimiter → Bool
 is_delimiter (One a) = is_character a
 is_delimiter (Two a b) = is_character a && is_character b
 
--- it has one byte
-abbrev pub is_one : Delimiter → Bool
-is_one (One a) = true
-is_one (Two a b) = false
+-- no byte of it stands in it twice
+abbrev pub is_varied : Delimiter → Bool
+is_varied (One a) = true
+is_varied (Two a b) = not (a == b)
 
 abbrev pub is_csv_input : CsvInput → Bool
 is_csv_input csv =
     is_character csv.comment && is_character csv.field && is_character csv.quote && is_character csv.escape
-    && is_delimiter csv.delimiter && is_one csv.delimiter && input_is_apart csv
+    && is_delimiter csv.delimiter && is_varied csv.delimiter && input_is_apart csv
 
 abbrev pub is_csv_output : CsvOutput → Bool
 is_csv_output csv =
@@ -38,6 +38,7 @@ is_csv_output csv =
 abbrev pub is_input : Input → Bool
 is_input (CsvObject csv) = is_csv_input csv
 is_input JsonLines = true
+is_input JsonDocument = true
 is_input Parquet = true
 
 abbrev pub is_output : Output → Bool
@@ -49,12 +50,6 @@ abbrev pub is_range : ScanRange → Bool
 is_range (Between start end) = nat_le start end && nat_lt end (2 ^ 63)
 is_range (From start) = nat_lt start (2 ^ 63)
 is_range (Last count) = nat_lt 0 count && nat_lt count (2 ^ 63)
-
--- no quoted field may hold a record delimiter
-abbrev pub allows_range : Input → Bool
-allows_range (CsvObject csv) = not csv.quoted_delimiters
-allows_range JsonLines = true
-allows_range Parquet = true
 
 abbrev pub is_range_of : Input → Option ScanRange → Bool
 is_range_of input None = true

@@ -11,7 +11,7 @@ use Rattle.select_request.specs.declared.request.Delimiter.TheVariants.{One, Two
 use Rattle.select_request.specs.declared.request.Header.{Header}
 use Rattle.select_request.specs.declared.request.Header.TheVariants.{Without, Ignore, Use}
 use Rattle.select_request.specs.declared.request.Input.{Input}
-use Rattle.select_request.specs.declared.request.Input.TheVariants.{Csv as CsvObject, JsonLines, Parquet}
+use Rattle.select_request.specs.declared.request.Input.TheVariants.{Csv as CsvObject, JsonLines, JsonDocument, Parquet}
 use Rattle.select_request.specs.declared.request.Output.{Output}
 use Rattle.select_request.specs.declared.request.Output.TheVariants.{Csv as CsvReply, Json}
 use Rattle.select_request.specs.declared.request.ScanRange.{ScanRange as Range}
@@ -88,9 +88,14 @@ csv_input_parts csv =
     ∷ closes CsvInput
     ∷ []
 
+-- JSON of this type
+abbrev pub json_input_parts : List ℕ → List Part
+json_input_parts type = opens JsonInput ∷ leaf JsonType type ∷ closes JsonInput ∷ []
+
 abbrev pub input_parts : Input → List Part
 input_parts (CsvObject csv) = csv_input_parts csv
-input_parts JsonLines = opens JsonInput ∷ leaf JsonType (codes "LINES") ∷ closes JsonInput ∷ []
+input_parts JsonLines = json_input_parts (codes "LINES")
+input_parts JsonDocument = json_input_parts (codes "DOCUMENT")
 input_parts Parquet = opens ParquetInput ∷ closes ParquetInput ∷ []
 
 abbrev pub csv_output_parts : CsvOutputSettings → List Part

@@ -44,6 +44,15 @@ pub record FailsCheck (body : List ℕ) (fault : RequestFault) : Type 0 where
 abbrev pub HasFault : List ℕ → RequestFault → Type 0
 HasFault body fault = IsTooLong body fault ⊎ (IsNoBody body fault ⊎ FailsCheck body fault)
 
+-- a reading of the body: the request that it spells, or its fault
+abbrev pub HasReading : List ℕ → Result SelectRequest RequestFault → Type 0
+HasReading body (Ok request) = SpellsRequest body request
+HasReading body (Err fault) = HasFault body fault
+
+pub record SomeReading (body : List ℕ) : Type 0 where
+  pub reading : Result SelectRequest RequestFault
+  pub holds : HasReading body reading
+
 -- what reading the body may give
 abbrev pub Reads : List ℕ → Result SelectRequest ReadError → Type 0
 Reads body (Ok request) = SpellsRequest body request

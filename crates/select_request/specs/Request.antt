@@ -2,9 +2,9 @@
 -- isn't there (Amazon S3 API Reference, SelectObjectContent).
 use Rattle.std.specs.Prelude.{ℕ, Bool, false, List, [], ◌∷◌, Option, None, Some, is_some, unwrap_or, if◌then◌else◌}
 use Rattle.request_elements.specs.Elements.{same_element}
-use Rattle.select_request.specs.Values.{truth_of, header_of, quoting_of, character_of, one_of, one_or_two_of, range_of}
+use Rattle.select_request.specs.Values.{truth_of, header_of, quoting_of, json_of, character_of, input_delimiter_of, output_delimiter_of, range_of}
 use Rattle.request_elements.specs.declared.element.Element.{Element}
-use Rattle.request_elements.specs.declared.element.Element.TheVariants.{Expression, Enabled, CsvInput, AllowQuotedRecordDelimiter, Comments, InputFieldDelimiter, FileHeaderInfo, InputQuoteCharacter, InputQuoteEscapeCharacter, InputRecordDelimiter, JsonInput, CsvOutput, OutputFieldDelimiter, OutputQuoteCharacter, OutputQuoteEscapeCharacter, QuoteFields, CsvRecordDelimiter, JsonRecordDelimiter, ScanRange, Start, End}
+use Rattle.request_elements.specs.declared.element.Element.TheVariants.{Expression, Enabled, CsvInput, AllowQuotedRecordDelimiter, Comments, InputFieldDelimiter, FileHeaderInfo, InputQuoteCharacter, InputQuoteEscapeCharacter, InputRecordDelimiter, JsonInput, JsonType, CsvOutput, OutputFieldDelimiter, OutputQuoteCharacter, OutputQuoteEscapeCharacter, QuoteFields, CsvRecordDelimiter, JsonRecordDelimiter, ScanRange, Start, End}
 use Rattle.request_elements.specs.declared.found.Found.{Found}
 use Rattle.select_request.specs.declared.request.CsvInput.{CsvInput as CsvInputSettings}
 use Rattle.select_request.specs.declared.request.CsvOutput.{CsvOutput as CsvOutputSettings}
@@ -72,11 +72,15 @@ csv_input_from found = record {
   header = value_in header_of Without FileHeaderInfo found;
   quote = value_in character_of double_quote InputQuoteCharacter found;
   escape = value_in character_of double_quote InputQuoteEscapeCharacter found;
-  delimiter = value_in one_of (One line_feed) InputRecordDelimiter found;
+  delimiter = value_in input_delimiter_of (One line_feed) InputRecordDelimiter found;
 }
 
+-- a JSON object has a Type, where the elements pass all checks
 abbrev pub input_from : List Found → Input
-input_from found = if has CsvInput found then CsvObject (csv_input_from found) else if has JsonInput found then JsonLines else Parquet
+input_from found =
+    if has CsvInput found then CsvObject (csv_input_from found)
+    else if has JsonInput found then value_in json_of JsonLines JsonType found
+    else Parquet
 
 abbrev pub csv_output_from : List Found → CsvOutputSettings
 csv_output_from found = record {
@@ -84,11 +88,11 @@ csv_output_from found = record {
   quote = value_in character_of double_quote OutputQuoteCharacter found;
   escape = value_in character_of double_quote OutputQuoteEscapeCharacter found;
   always = value_in quoting_of false QuoteFields found;
-  delimiter = value_in one_or_two_of (One line_feed) CsvRecordDelimiter found;
+  delimiter = value_in output_delimiter_of (One line_feed) CsvRecordDelimiter found;
 }
 
 abbrev pub output_from : List Found → Output
-output_from found = if has CsvOutput found then CsvReply (csv_output_from found) else Json (value_in one_or_two_of (One line_feed) JsonRecordDelimiter found)
+output_from found = if has CsvOutput found then CsvReply (csv_output_from found) else Json (value_in output_delimiter_of (One line_feed) JsonRecordDelimiter found)
 
 -- no range, where ScanRange isn't there
 abbrev pub range_from : List Found → Option Range

@@ -9,6 +9,8 @@ use Rattle.select_request.specs.declared.request.Delimiter.{Delimiter}
 use Rattle.select_request.specs.declared.request.Delimiter.TheVariants.{One, Two}
 use Rattle.select_request.specs.declared.request.Header.{Header}
 use Rattle.select_request.specs.declared.request.Header.TheVariants.{Without, Ignore, Use}
+use Rattle.select_request.specs.declared.request.Input.{Input}
+use Rattle.select_request.specs.declared.request.Input.TheVariants.{Csv, JsonLines, JsonDocument, Parquet}
 use Rattle.select_request.specs.declared.request.ScanRange.{ScanRange}
 use Rattle.select_request.specs.declared.request.ScanRange.TheVariants.{Between, From, Last}
 
@@ -32,6 +34,10 @@ header_of text =
 abbrev pub quoting_of : List ℕ → Option Bool
 quoting_of text = if is_word (codes "ALWAYS") text then Some true else if is_word (codes "ASNEEDED") text then Some false else None
 
+-- which JSON the object is: LINES or DOCUMENT
+abbrev pub json_of : List ℕ → Option Input
+json_of text = if is_word (codes "LINES") text then Some JsonLines else if is_word (codes "DOCUMENT") text then Some JsonDocument else None
+
 -- an ASCII character other than NUL
 abbrev pub is_character : ℕ → Bool
 is_character b = nat_lt 0 b && nat_lt b 128
@@ -42,18 +48,19 @@ character_of [] = None
 character_of (b ∷ []) = if is_character b then Some b else None
 character_of (b ∷ c ∷ bytes) = None
 
--- one ASCII character, as a delimiter of records
-abbrev pub one_of : List ℕ → Option Delimiter
-one_of [] = None
-one_of (b ∷ []) = if is_character b then Some (One b) else None
-one_of (b ∷ c ∷ bytes) = None
+-- the object's record delimiter: one ASCII character, or two different ones
+abbrev pub input_delimiter_of : List ℕ → Option Delimiter
+input_delimiter_of [] = None
+input_delimiter_of (b ∷ []) = if is_character b then Some (One b) else None
+input_delimiter_of (b ∷ c ∷ []) = if is_character b && is_character c && not (b == c) then Some (Two b c) else None
+input_delimiter_of (b ∷ c ∷ d ∷ bytes) = None
 
--- one or two ASCII characters
-abbrev pub one_or_two_of : List ℕ → Option Delimiter
-one_or_two_of [] = None
-one_or_two_of (b ∷ []) = if is_character b then Some (One b) else None
-one_or_two_of (b ∷ c ∷ []) = if is_character b && is_character c then Some (Two b c) else None
-one_or_two_of (b ∷ c ∷ d ∷ bytes) = None
+-- the reply's record delimiter: one or two ASCII characters
+abbrev pub output_delimiter_of : List ℕ → Option Delimiter
+output_delimiter_of [] = None
+output_delimiter_of (b ∷ []) = if is_character b then Some (One b) else None
+output_delimiter_of (b ∷ c ∷ []) = if is_character b && is_character c then Some (Two b c) else None
+output_delimiter_of (b ∷ c ∷ d ∷ bytes) = None
 
 -- one digit or more
 abbrev pub is_digits : List ℕ → Bool
@@ -89,6 +96,14 @@ range_of (Some start) None = from_start (whole_number_of start)
 range_of None (Some end) = last_bytes (whole_number_of end)
 range_of (Some start) (Some end) = between (whole_number_of start) (whole_number_of end)
 
+-- a range may be asked of the object: not of CSV where a quoted field may hold a record delimiter, nor of
+-- a JSON document
+abbrev pub allows_range : Input → Bool
+allows_range (Csv csv) = not csv.quoted_delimiters
+allows_range JsonLines = true
+allows_range JsonDocument = false
+allows_range Parquet = true
+
 -- ---- characters that stand in each other's way
 
 -- the character is one of the delimiter's
@@ -96,8 +111,8 @@ abbrev pub holds : Delimiter → ℕ → Bool
 holds (One a) c = a == c
 holds (Two a b) c = (a == c) || (b == c)
 
--- field, record delimiter, quote and comment are pairwise different, and the escape differs from all
--- but the quote
+-- field, quote, comment and each byte of the record delimiter are pairwise different, and the escape
+-- differs from all but the quote; the delimiter's own two bytes differ by `input_delimiter_of`
 abbrev pub input_is_apart : CsvInput → Bool
 input_is_apart csv =
     not (csv.field == csv.quote) && not (csv.field == csv.comment) && not (csv.quote == csv.comment)

@@ -4,8 +4,10 @@ ghost use Rattle.select_request.specs.Checks.{checks, first_fault, first_unmet, 
 
 use crate::fault::{RequestFault, RequestFaultCode};
 use crate::found::{has, place_in, text_in};
-use crate::settings::{csv_input_from, csv_output_from, range_from, truth_in};
-use crate::values::{character, header, is_word, one, one_or_two, quoting, truth};
+use crate::settings::{csv_input_from, csv_output_from, input_from, range_from};
+use crate::values::{
+    character, header, input_delimiter, is_word, json, output_delimiter, quoting, truth,
+};
 use request_elements::{Element, Found};
 
 /// A check on the elements found in a body.
@@ -25,7 +27,7 @@ pub(crate) enum Check {
     OutputIsApart,
     /// Start and End spell a range.
     IsRange,
-    /// No quoted field of the object may hold a record delimiter, where there is a range.
+    /// The object's format allows a range, where there is one.
     AllowsRange,
 }
 
@@ -70,7 +72,7 @@ fn fits(element: Element, text: &str) -> bool
     match element {
         Element::ExpressionType => is_word(text, "SQL"),
         Element::CompressionType => is_word(text, "NONE"),
-        Element::JsonType => is_word(text, "LINES"),
+        Element::JsonType => json(text).is_some(),
         Element::Enabled | Element::AllowQuotedRecordDelimiter => truth(text).is_some(),
         Element::FileHeaderInfo => header(text).is_some(),
         Element::QuoteFields => quoting(text).is_some(),
@@ -81,8 +83,10 @@ fn fits(element: Element, text: &str) -> bool
         | Element::OutputFieldDelimiter
         | Element::OutputQuoteCharacter
         | Element::OutputQuoteEscapeCharacter => character(text).is_some(),
-        Element::InputRecordDelimiter => one(text).is_some(),
-        Element::CsvRecordDelimiter | Element::JsonRecordDelimiter => one_or_two(text).is_some(),
+        Element::InputRecordDelimiter => input_delimiter(text).is_some(),
+        Element::CsvRecordDelimiter | Element::JsonRecordDelimiter => output_delimiter(
+            text,
+        ).is_some(),
         _ => true,
     }
 }
@@ -126,8 +130,7 @@ impl Check {
             Check::OutputIsApart => csv_output_from(found).is_apart(),
             Check::IsRange => !has(found, Element::ScanRange) || range_from(found).is_some(),
             Check::AllowsRange => {
-                !has(found, Element::ScanRange)
-                    || !truth_in(found, Element::AllowQuotedRecordDelimiter)
+                !has(found, Element::ScanRange) || input_from(found).allows_range()
             }
         }
     }

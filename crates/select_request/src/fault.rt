@@ -25,7 +25,7 @@ pub enum RequestFaultCode {
     InvalidCompressionFormat,
     /// The scan range is none.
     InvalidScanRange,
-    /// A scan range over CSV whose quoted fields may hold record delimiters.
+    /// A scan range over CSV whose quoted fields may hold record delimiters, or over a JSON document.
     UnsupportedScanRangeInput,
 }
 

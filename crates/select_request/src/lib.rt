@@ -16,7 +16,7 @@ mod values;
 
 pub use body::{LONGEST_BODY, read};
 pub use fault::{ReadError, RequestFault, RequestFaultCode};
-pub use law::print_and_read;
+pub use law::{body_has_one_reading, printed_request_is_read};
 pub use printer::print;
 pub use request::{
     CsvInput, CsvOutput, Delimiter, Header, Input, Output, ScanRange, SelectRequest,

@@ -1,6 +1,6 @@
 //! A request is printed as a body: its elements in the order of the table, each with its value.
 ghost use Rattle.std.specs.Prelude.{◌≡◌, ◌++◌, ◌<◌, length, [], ◌∷◌, Some, IfOk, OnOk, IsTrue, MatchOption, decimal};
-ghost use Rattle.select_request.specs.Printed.{escaped_byte, escaped, truth_text, header_text, quoting_text, delimiter_text, opens, leaf, closes, start_tag, end_tag, print_part, print_parts, csv_input_parts, input_parts, csv_output_parts, output_parts, range_parts, settings_parts, printed};
+ghost use Rattle.select_request.specs.Printed.{escaped_byte, escaped, truth_text, header_text, quoting_text, delimiter_text, opens, leaf, closes, start_tag, end_tag, print_part, print_parts, csv_input_parts, json_input_parts, input_parts, csv_output_parts, output_parts, range_parts, settings_parts, printed};
 ghost use Rattle.select_request.specs.Reading.{SpellsRequest};
 ghost use Rattle.select_request.specs.Printable.{is_csv_input, is_csv_output, is_input, is_output, is_delimiter, is_printable};
 
@@ -188,17 +188,23 @@ impl Printer {
         self.close(Element::CsvInput)
     }
 
+    /// JSON of this type.
+    fn json_input(&mut self, json_type: &str) -> Result<(), AllocError>
+        ensures { OnOk result (self.new ≡ self.old ++ print_parts (json_input_parts json_type.now)) }
+    {
+        self.open(Element::JsonInput)?;
+        self.leaf(Element::JsonType, json_type)?;
+        self.close(Element::JsonInput)
+    }
+
     fn input(&mut self, input: Input) -> Result<(), AllocError>
         requires { IsTrue (is_input input) }
         ensures { OnOk result (self.new ≡ self.old ++ print_parts (input_parts input)) }
     {
         match input {
             Input::Csv(csv) => self.csv_input(csv),
-            Input::JsonLines => {
-                self.open(Element::JsonInput)?;
-                self.leaf(Element::JsonType, "LINES")?;
-                self.close(Element::JsonInput)
-            }
+            Input::JsonLines => self.json_input("LINES"),
+            Input::JsonDocument => self.json_input("DOCUMENT"),
             Input::Parquet => {
                 self.open(Element::ParquetInput)?;
                 self.close(Element::ParquetInput)

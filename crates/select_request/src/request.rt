@@ -1,7 +1,7 @@
 //! A request, as its body spells it (Amazon S3 API Reference, `SelectObjectContent` and the data types that it names).
 //! A field that holds a character has its byte: in a valid request it is ASCII and not NUL.
 ghost use Rattle.std.specs.Prelude.{◌≡◌};
-ghost use Rattle.select_request.specs.Values.{holds, input_is_apart, output_is_apart};
+ghost use Rattle.select_request.specs.Values.{allows_range, holds, input_is_apart, output_is_apart};
 
 use request_elements::TextBuf;
 
@@ -26,6 +26,8 @@ pub enum Input {
     Csv(CsvInput),
     /// `JSON` of the type `LINES`: one JSON text a line.
     JsonLines,
+    /// `JSON` of the type `DOCUMENT`: one JSON text.
+    JsonDocument,
     Parquet,
 }
 
@@ -44,7 +46,7 @@ pub struct CsvInput {
     pub quote: u8,
     /// What stands before a quote inside a quoted field (`QuoteEscapeCharacter`). It may be the quote.
     pub escape: u8,
-    /// What ends a record (`RecordDelimiter`): one byte, in a valid request.
+    /// What ends a record (`RecordDelimiter`): in a valid request one byte, or two different ones.
     pub delimiter: Delimiter,
 }
 
@@ -99,6 +101,20 @@ pub enum ScanRange {
     From { start: u64 },
     /// The last `count` bytes, one at least.
     Last { count: u64 },
+}
+
+impl Input {
+    /// Whether a scan range may be asked of the object: not of CSV where a quoted field may hold a record delimiter, nor of
+    /// a JSON document.
+    pub fn allows_range(self) -> bool
+        ensures { result ≡ allows_range self }
+    {
+        match self {
+            Input::Csv(csv) => !csv.quoted_delimiters,
+            Input::JsonLines | Input::Parquet => true,
+            Input::JsonDocument => false,
+        }
+    }
 }
 
 impl Delimiter {

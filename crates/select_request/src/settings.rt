@@ -1,6 +1,6 @@
 //! The values of the elements found in a body, each with its default.
 ghost use Rattle.std.specs.Prelude.{◌≡◌, false, IfOk, IfErr};
-ghost use Rattle.select_request.specs.Values.{truth_of, character_of, header_of, quoting_of, one_of, one_or_two_of, range_of};
+ghost use Rattle.select_request.specs.Values.{truth_of, character_of, header_of, quoting_of, json_of, input_delimiter_of, output_delimiter_of, range_of};
 ghost use Rattle.select_request.specs.Request.{value_in, csv_input_from, csv_output_from, input_from, output_from, range_from, request_from};
 ghost use Rattle.select_request.specs.Checks.{first_fault};
 
@@ -10,12 +10,14 @@ use crate::found::{has, take_text, text_in};
 use crate::request::{
     CsvInput, CsvOutput, Delimiter, Header, Input, Output, ScanRange, SelectRequest,
 };
-use crate::values::{character, header, one, one_or_two, quoting, range, truth};
+use crate::values::{
+    character, header, input_delimiter, json, output_delimiter, quoting, range, truth,
+};
 use request_elements::{Element, Found, TextBuf};
 use std::alloc::Global;
 
 /// A truth value, which is false by default.
-pub(crate) fn truth_in(found: &[Found], element: Element) -> bool
+fn truth_in(found: &[Found], element: Element) -> bool
     ensures { result ≡ value_in truth_of false element found.now }
 {
     match text_in(found, element) {
@@ -54,22 +56,32 @@ fn quoting_in(found: &[Found]) -> bool
     }
 }
 
+/// Which JSON the object is: by lines, where it isn't told.
+fn json_in(found: &[Found]) -> Input
+    ensures { result ≡ value_in json_of Input.JsonLines Element.JsonType found.now }
+{
+    match text_in(found, Element::JsonType) {
+        Some(text) => json(text).unwrap_or(Input::JsonLines),
+        None => Input::JsonLines,
+    }
+}
+
 /// The object's record delimiter.
 fn input_delimiter_in(found: &[Found]) -> Delimiter
-    ensures { result ≡ value_in one_of (Delimiter.One 10) Element.InputRecordDelimiter found.now }
+    ensures { result ≡ value_in input_delimiter_of (Delimiter.One 10) Element.InputRecordDelimiter found.now }
 {
     match text_in(found, Element::InputRecordDelimiter) {
-        Some(text) => one(text).unwrap_or(Delimiter::One(b'\n')),
+        Some(text) => input_delimiter(text).unwrap_or(Delimiter::One(b'\n')),
         None => Delimiter::One(b'\n'),
     }
 }
 
 /// A record delimiter of the reply.
 fn output_delimiter_in(found: &[Found], element: Element) -> Delimiter
-    ensures { result ≡ value_in one_or_two_of (Delimiter.One 10) element found.now }
+    ensures { result ≡ value_in output_delimiter_of (Delimiter.One 10) element found.now }
 {
     match text_in(found, element) {
-        Some(text) => one_or_two(text).unwrap_or(Delimiter::One(b'\n')),
+        Some(text) => output_delimiter(text).unwrap_or(Delimiter::One(b'\n')),
         None => Delimiter::One(b'\n'),
     }
 }
@@ -90,14 +102,14 @@ pub(crate) fn csv_input_from(found: &[Found]) -> CsvInput
 }
 
 /// The object's format.
-fn input_from(found: &[Found]) -> Input
+pub(crate) fn input_from(found: &[Found]) -> Input
     ensures { result ≡ input_from found.now }
 {
     if has(found, Element::CsvInput) {
         return Input::Csv(csv_input_from(found));
     }
     if has(found, Element::JsonInput) {
-        Input::JsonLines
+        json_in(found)
     } else {
         Input::Parquet
     }

@@ -1,7 +1,7 @@
 //! Which requests a body can spell: the tests for a caller that made or changed a request itself.
 ghost use Rattle.std.specs.Prelude.{◌≡◌, is_some};
 ghost use Rattle.select_request.specs.Values.{is_character};
-ghost use Rattle.select_request.specs.Printable.{is_delimiter, is_one, is_csv_input, is_csv_output, is_input, is_output, is_range, allows_range, is_range_of, is_expression, is_valid, is_printable};
+ghost use Rattle.select_request.specs.Printable.{is_delimiter, is_varied, is_csv_input, is_csv_output, is_input, is_output, is_range, is_range_of, is_expression, is_valid, is_printable};
 
 use crate::request::{CsvInput, CsvOutput, Delimiter, Input, Output, ScanRange, SelectRequest};
 use crate::values::is_character;
@@ -19,12 +19,13 @@ fn is_delimiter(delimiter: Delimiter) -> bool
     }
 }
 
-fn is_one(delimiter: Delimiter) -> bool
-    ensures { result ≡ is_one delimiter }
+/// Whether no byte of the delimiter stands in it twice.
+fn is_varied(delimiter: Delimiter) -> bool
+    ensures { result ≡ is_varied delimiter }
 {
     match delimiter {
         Delimiter::One(_) => true,
-        Delimiter::Two(_, _) => false,
+        Delimiter::Two(first, second) => first != second,
     }
 }
 
@@ -36,7 +37,7 @@ fn is_csv_input(csv: CsvInput) -> bool
         && is_character(csv.quote)
         && is_character(csv.escape)
         && is_delimiter(csv.delimiter)
-        && is_one(csv.delimiter)
+        && is_varied(csv.delimiter)
         && csv.is_apart()
 }
 
@@ -55,7 +56,7 @@ fn is_input(input: Input) -> bool
 {
     match input {
         Input::Csv(csv) => is_csv_input(csv),
-        Input::JsonLines | Input::Parquet => true,
+        Input::JsonLines | Input::JsonDocument | Input::Parquet => true,
     }
 }
 
@@ -79,21 +80,11 @@ fn is_range(range: ScanRange) -> bool
     }
 }
 
-/// Whether no quoted field may hold a record delimiter.
-fn allows_range(input: Input) -> bool
-    ensures { result ≡ allows_range input }
-{
-    match input {
-        Input::Csv(csv) => !csv.quoted_delimiters,
-        Input::JsonLines | Input::Parquet => true,
-    }
-}
-
 fn is_range_of(input: Input, range: Option<ScanRange>) -> bool
     ensures { result ≡ is_range_of input range }
 {
     match range {
-        Some(range) => is_range(range) && allows_range(input),
+        Some(range) => is_range(range) && input.allows_range(),
         None => true,
     }
 }
@@ -107,8 +98,8 @@ fn is_expression(text: &str) -> bool
 
 impl SelectRequest {
     /// Whether its values pass the checks that a body's do, as those of each request that was read do: its characters
-    /// are ASCII other than NUL and not in each other's way, its object's record delimiter is one byte, and its range is
-    /// not empty, has numbers up to 2^63 - 1, and stands beside no quoted record delimiters.
+    /// are ASCII other than NUL and not in each other's way, its object's record delimiter is no byte twice, and its range
+    /// is not empty, has numbers up to 2^63 - 1, and is asked of a format that allows one.
     #[tactic(auto, unfolding(crate::specs::Printable::is_valid))]
     pub fn is_valid(&self) -> bool
         ensures { result ≡ is_valid self.now }

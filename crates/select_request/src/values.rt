@@ -1,8 +1,8 @@
 //! One value each: what the text of an element stands for.
 ghost use Rattle.std.specs.Prelude.{◌≡◌, ◌^◌, nat_lt, IsTrue, ◌↔◌, slice_index, option_map, if◌then◌else◌};
-ghost use Rattle.select_request.specs.Values.{is_word, is_character, truth_of, header_of, quoting_of, character_of, one_of, one_or_two_of, whole_number_of, between, from_start, last_bytes, range_of};
+ghost use Rattle.select_request.specs.Values.{is_word, is_character, truth_of, header_of, quoting_of, json_of, character_of, input_delimiter_of, output_delimiter_of, whole_number_of, between, from_start, last_bytes, range_of};
 
-use crate::request::{Delimiter, Header, ScanRange};
+use crate::request::{Delimiter, Header, Input, ScanRange};
 
 /// Whether the text is this word, in any ASCII case.
 #[tactic(auto, unfolding(crate::specs::Values::is_word))]
@@ -53,6 +53,19 @@ pub(crate) fn quoting(text: &str) -> Option<bool>
     }
 }
 
+/// `LINES` or `DOCUMENT`.
+pub(crate) fn json(text: &str) -> Option<Input>
+    ensures { result ≡ json_of text.now }
+{
+    if is_word(text, "LINES") {
+        Some(Input::JsonLines)
+    } else if is_word(text, "DOCUMENT") {
+        Some(Input::JsonDocument)
+    } else {
+        None
+    }
+}
+
 /// Whether the byte is an ASCII character other than NUL.
 pub(crate) fn is_character(byte: u8) -> bool
     ensures { result ≡ is_character byte }
@@ -70,19 +83,22 @@ pub(crate) fn character(text: &str) -> Option<u8>
     }
 }
 
-/// One ASCII character, as a record delimiter.
-pub(crate) fn one(text: &str) -> Option<Delimiter>
-    ensures { result ≡ one_of text.now }
+/// The object's record delimiter: one ASCII character, or two different ones.
+pub(crate) fn input_delimiter(text: &str) -> Option<Delimiter>
+    ensures { result ≡ input_delimiter_of text.now }
 {
     match *text.as_bytes() {
         [byte] if is_character(byte) => Some(Delimiter::One(byte)),
+        [first, second] if is_character(first) && is_character(second) && first != second => {
+            Some(Delimiter::Two(first, second))
+        }
         _ => None,
     }
 }
 
-/// One or two ASCII characters, as a record delimiter.
-pub(crate) fn one_or_two(text: &str) -> Option<Delimiter>
-    ensures { result ≡ one_or_two_of text.now }
+/// The reply's record delimiter: one or two ASCII characters.
+pub(crate) fn output_delimiter(text: &str) -> Option<Delimiter>
+    ensures { result ≡ output_delimiter_of text.now }
 {
     match *text.as_bytes() {
         [byte] if is_character(byte) => Some(Delimiter::One(byte)),

@@ -1,18 +1,21 @@
 use Rattle.std.specs.Prelude.{◌≤◌, length}
-use Rattle.std.proofs.Common.{◌∙◌, ap, arith}
+use Rattle.std.proofs.Common.{◌∙◌, ap, subst, arith}
+use Rattle.request_elements.specs.Body.{IsMalformedAs}
+use Rattle.request_elements.specs.declared.elements.ElementsError.{ElementsError}
 use Rattle.select_request.specs.Reading.{longest_body}
 use Rattle.select_request.proofs.ValidRequests.{spelled_is_valid}
 use Rattle.select_request.proofs.ReadTexts.{read_is_printable}
-use Rattle.select_request.proofs.OneFault.{refused_at, malformed_one_fault}
+use Rattle.select_request.proofs.OneReading.{refused_at, no_body, one_fault}
 use Rattle.select_request.proofs.body.read.Goals as goal
 
 pub returns-in-Err-Malformed-clause-fault : goal.returns-in-Err-Malformed-clause-fault
 returns-in-Err-Malformed-clause-fault c =
     let short : length c.args.body.now ≤ longest_body = omega arith in
+    let malformed = subst (λ (e : ElementsError). IsMalformedAs c.args.body.now e) c.in-Err-Malformed.field-0-is c.in-Err-Malformed.ensures.sound in
     λ fault has.
     c.malformed-in-Err-Malformed.ensures
     ∙ ap refused_at c.in-Err-Malformed.at-is
-    ∙ malformed_one_fault c.args.body.now c.in-Err-Malformed.field-0 c.in-Err-Malformed.at c.in-Err-Malformed.field-0-is short c.in-Err-Malformed.ensures.spelled c.in-Err-Malformed.ensures.refused fault has
+    ∙ one_fault c.args.body.now (refused_at c.in-Err-Malformed.at) fault (no_body c.args.body.now c.in-Err-Malformed.at short malformed) has
 
 pub returns-in-Ok-request_of-clause-valid : goal.returns-in-Ok-request_of-clause-valid
 returns-in-Ok-request_of-clause-valid c =
