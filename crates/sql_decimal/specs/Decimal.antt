@@ -1,5 +1,5 @@
 -- Decimal numbers: a whole number of at most 38 digits, divided by a power of ten.
-use Rattle.std.specs.Prelude.{ℕ, ◌^◌, ◌<◌, ◌≤◌, ℤ, nat_lt, nat_le, Bool, ◌&&◌, unsigned_abs, pos, ◌*ℤ◌}
+use Rattle.std.specs.Prelude.{ℕ, ◌^◌, ◌<◌, ◌≤◌, ℤ, nat_lt, nat_le, Bool, true, false, ◌&&◌, unsigned_abs, pos, negsuc, neg_ℤ, ◌*ℤ◌}
 use Rattle.std.specs.Ordering.{int_cmp}
 use Rattle.std.specs.declared.cmp.Ordering.{Ordering}
 
@@ -11,6 +11,16 @@ pub record Decimal : Type 0 where
 -- the fraction c / 10 ^ s
 abbrev pub decimal_of : ℤ → ℕ → Decimal
 decimal_of c s = record { coefficient = c; scale = s }
+
+-- n, or the negation of n
+abbrev pub signed : Bool → ℕ → ℤ
+signed true n = neg_ℤ (pos n)
+signed false n = pos n
+
+-- whether a number is below zero
+abbrev pub is_negative : ℤ → Bool
+is_negative (pos n) = false
+is_negative (negsuc n) = true
 
 -- c has at most p digits
 abbrev pub IsWithin : ℕ → ℤ → Type 0

@@ -5,3 +5,4 @@ pub mod NumberText
 pub mod Printing
 pub mod Reading
 pub mod Resume
+pub mod Words

@@ -1,12 +1,12 @@
 -- Number texts: spaces, an optional sign, digits with an optional point and digits, an optional
 -- exponent, spaces. A text is a tree, a printer from the tree to its characters, and a fact that
 -- says which trees are valid. The number that a text means stands below.
-use Rattle.std.specs.Prelude.{◌≡◌, ℕ, ◌^◌, ◌<◌, suc, Bool, true, false, ◌==◌, nat_lt, ℤ, pos, negsuc, neg_ℤ, ◌-ℤ◌, ◌*ℤ◌, List, [], ◌∷◌, ◌++◌, length, replicate, Option, Some, None, IfSome, IsTrue, if◌then◌else◌}
+use Rattle.std.specs.Prelude.{◌≡◌, ℕ, ◌^◌, ◌<◌, suc, Bool, true, false, ◌==◌, nat_lt, ℤ, pos, negsuc, ◌-ℤ◌, ◌*ℤ◌, List, [], ◌∷◌, ◌++◌, length, replicate, Option, Some, None, IfSome, IsTrue, if◌then◌else◌}
 use Rattle.std.specs.Str.{all_ascii_digits}
 use Rattle.std.specs.Str.Parse.{digits_value}
 use Rattle.sql_decimal.specs.declared.number.Num.{Num}
 use Rattle.sql_decimal.specs.declared.number.Num.TheVariants.{Int, Dec}
-use Rattle.sql_decimal.specs.Decimal.{decimal_of, is_decimal}
+use Rattle.sql_decimal.specs.Decimal.{decimal_of, is_decimal, signed}
 
 -- the characters
 abbrev pub space : ℕ
@@ -82,11 +82,6 @@ abbrev pub is_minus : Option Sign → Bool
 is_minus None = false
 is_minus (Some plus) = false
 is_minus (Some minus) = true
-
--- n, or the negation of n
-abbrev pub signed : Bool → ℕ → ℤ
-signed true n = neg_ℤ (pos n)
-signed false n = pos n
 
 -- c / 10 ^ s, where that is a decimal
 abbrev pub decimal_number : ℤ → ℕ → Option Num

@@ -2,7 +2,8 @@
 use Rattle.std.specs.Prelude.{ℕ, ◌+◌, ◌*◌, Bool, true, false, ◌||◌, ◌==◌, List, [], ◌∷◌, Option, None, if◌then◌else◌}
 use Rattle.std.specs.Char.{is_ascii_digit, digit_value}
 use Rattle.sql_decimal.specs.declared.number.Num.{Num}
-use Rattle.sql_decimal.specs.NumberText.{space, plus_sign, minus_sign, decimal_point, capital_e, small_e, signed, decimal_number, whole_number, scaled_number}
+use Rattle.sql_decimal.specs.Decimal.{signed}
+use Rattle.sql_decimal.specs.NumberText.{space, plus_sign, minus_sign, decimal_point, capital_e, small_e, decimal_number, whole_number, scaled_number}
 
 -- the mark of an exponent
 abbrev pub is_mark : ℕ → Bool
