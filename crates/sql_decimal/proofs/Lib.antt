@@ -7,3 +7,4 @@ pub mod Outcomes
 pub mod PowersOfTen
 pub mod ReadingOn
 pub mod Scaling
+pub mod ReadingBytes

@@ -6,3 +6,4 @@ pub mod Printing
 pub mod Reading
 pub mod Resume
 pub mod Words
+pub mod ReadingBytes

@@ -9,6 +9,7 @@ mod powers;
 mod print;
 mod read;
 mod reader;
+mod short;
 #[cfg(test)]
 mod tests;
 
