@@ -2,7 +2,7 @@
 ghost use Rattle.std.specs.Prelude.{◌≡◌, ◌≢◌, ◌^◌, ◌<◌, ◌≤◌, ℤ, pos, ◌+ℤ◌, ◌-ℤ◌, ◌*ℤ◌, int_div, int_rem, unsigned_abs, true, IsTrue, IfSome, IfOk, if◌then◌else◌};
 ghost use Rattle.std.specs.Option.{SomeIff};
 ghost use Rattle.sql_decimal.specs.Decimal.{Decimal, decimal_of, is_within};
-ghost use Rattle.sql_decimal.specs.Fractions.{IsSum, IsDifference, IsProduct, IsQuotient};
+ghost use Rattle.sql_decimal.specs.Fractions.{IsSum, IsDifference, IsProduct, IsQuotient, IsRemainder, IsCut};
 ghost use Rattle.sql_decimal.specs.Arithmetic.{aligned, common_scale, are_aligned, decimal_or_overflow, cut_coefficient, sum, difference, product, quotient, remainder, cut};
 
 use crate::decimal::{Dec, NumFault};
@@ -209,7 +209,8 @@ impl Dec {
     /// more than 38 digits.
     #[tactic(auto, unfolding(crate::specs::Arithmetic::remainder))]
     pub fn rem(&self, other: &Dec) -> Result<Dec, NumFault>
-        ensures { result ≡ remainder self.now other.now }
+        ensures value { result ≡ remainder self.now other.now }
+        ensures fraction { IfOk result (IsRemainder self.now other.now) }
     {
         if other.coeff() == 0 {
             return Err(NumFault::DivideByZero);
@@ -228,7 +229,8 @@ impl Dec {
         requires at_least_one { 1 ≤ digits }
         requires at_most { digits ≤ 38 }
         requires scale { scale ≤ digits }
-        ensures { result ≡ cut self.now digits scale }
+        ensures value { result ≡ cut self.now digits scale }
+        ensures fraction { IfOk result (IsCut self.now) }
     {
         match self.at_scale(scale) {
             Some(coeff) => within(coeff, digits, scale),
