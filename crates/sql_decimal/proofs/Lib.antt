@@ -8,3 +8,4 @@ pub mod PowersOfTen
 pub mod ReadingOn
 pub mod Scaling
 pub mod ReadingBytes
+pub mod ShortPairs

@@ -5,8 +5,8 @@ use Rattle.std.proofs.lemmas.Bool.Decides.{nat_tests}
 use Rattle.std.proofs.lemmas.Bool.{cases_lt}
 use Rattle.std.proofs.lemmas.Int.{ints, unsigned_abs-mul}
 use Rattle.sql_decimal.specs.declared.number.Num.TheVariants.{Dec}
-use Rattle.sql_decimal.specs.Decimal.{is_decimal, decimal_of, signed}
-use Rattle.sql_decimal.specs.NumberText.{space, plus_sign, minus_sign, decimal_point, decimal_number, is_64_bit, whole_number, shifted_number, scaled_number}
+use Rattle.sql_decimal.specs.Decimal.{is_64_bit, is_decimal, decimal_of, signed}
+use Rattle.sql_decimal.specs.NumberText.{space, plus_sign, minus_sign, decimal_point, decimal_number, whole_number, shifted_number, scaled_number}
 use Rattle.sql_decimal.specs.Reading.{is_mark, with_digit, after_number, in_exponent, exponent_digits, after_mark, in_fraction, fraction_digits, in_whole}
 use Rattle.sql_decimal.proofs.PowersOfTen.{ten_pow_pos, scaled_far_over}
 use Rattle.sql_decimal.specs.Words.{unsigned_abs-signed}

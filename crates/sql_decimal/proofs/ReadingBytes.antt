@@ -9,8 +9,8 @@ use Rattle.std.proofs.lemmas.Map.Views.{exact_unsigned_eq}
 use Rattle.std.proofs.lemmas.Str.{chars-nil}
 use Rattle.sql_decimal.specs.declared.number.Num.{Num}
 use Rattle.sql_decimal.specs.declared.number.Num.TheVariants.{Int}
-use Rattle.sql_decimal.specs.Decimal.{signed}
-use Rattle.sql_decimal.specs.NumberText.{space, plus_sign, minus_sign, decimal_point, is_64_bit, whole_number}
+use Rattle.sql_decimal.specs.Decimal.{is_64_bit, signed}
+use Rattle.sql_decimal.specs.NumberText.{space, plus_sign, minus_sign, decimal_point, whole_number}
 use Rattle.sql_decimal.specs.Reading.{number_of, whole_digits, in_whole, in_fraction, fraction_digits, after_number, with_digit}
 use Rattle.sql_decimal.specs.ReadingBytes.{chars_from, ReadsSpaces, ReadsDigits, EndsBefore}
 

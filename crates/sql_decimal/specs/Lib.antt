@@ -7,3 +7,4 @@ pub mod Reading
 pub mod Resume
 pub mod Words
 pub mod ReadingBytes
+pub mod ShortPairs

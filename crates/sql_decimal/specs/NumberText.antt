@@ -6,7 +6,7 @@ use Rattle.std.specs.Str.{all_ascii_digits}
 use Rattle.std.specs.Str.Parse.{digits_value}
 use Rattle.sql_decimal.specs.declared.number.Num.{Num}
 use Rattle.sql_decimal.specs.declared.number.Num.TheVariants.{Int, Dec}
-use Rattle.sql_decimal.specs.Decimal.{decimal_of, is_decimal, signed}
+use Rattle.sql_decimal.specs.Decimal.{decimal_of, is_decimal, is_64_bit, signed}
 
 -- the characters
 abbrev pub space : ℕ
@@ -86,11 +86,6 @@ is_minus (Some minus) = true
 -- c / 10 ^ s, where that is a decimal
 abbrev pub decimal_number : ℤ → ℕ → Option Num
 decimal_number c s = if is_decimal c s then Some (Dec (decimal_of c s)) else None
-
--- a whole number within 64 bits
-abbrev pub is_64_bit : ℤ → Bool
-is_64_bit (pos n) = nat_lt n (2 ^ 63)
-is_64_bit (negsuc n) = nat_lt n (2 ^ 63)
 
 -- digits of the value m, without a point and an exponent: an Int within 64 bits, else a decimal
 abbrev pub whole_number : Bool → ℕ → Option Num

@@ -1,5 +1,5 @@
 //! The decimal number.
-ghost use Rattle.std.specs.Prelude.{◌≡◌, ◌^◌, ◌<◌, ◌≤◌, neg_ℤ, unsigned_abs};
+ghost use Rattle.std.specs.Prelude.{◌≡◌, ◌^◌, ◌<◌, ◌≤◌, neg_ℤ, unsigned_abs, IfSome};
 ghost use Rattle.std.specs.Option.{SomeIff};
 
 use crate::powers::power_of_ten;
@@ -53,6 +53,9 @@ impl Model for Dec {
     } };
 }
 
+/// 10^18, the least number of 19 digits.
+const LEAST_OF_19_DIGITS: u64 = 1_000_000_000_000_000_000;
+
 /// 2^64, the weight of the upper word.
 const WORD: u128 = 1 << 64;
 
@@ -91,6 +94,40 @@ impl Dec {
             scale,
             negative: negative && size > 0,
         }
+    }
+
+    /// The whole number `int`, at scale 0.
+    pub fn of_int(int: i64) -> Dec
+        ensures { result ≡ decimal_of int 0 }
+    {
+        Dec::short(int, 0)
+    }
+
+    /// The number of a coefficient of 64 bits and a scale.
+    #[inline(always)]
+    pub(crate) fn short(coeff: i64, scale: u8) -> Dec
+        requires { scale ≤ 38 }
+        ensures { result ≡ decimal_of coeff scale }
+    {
+        Dec {
+            low: coeff.unsigned_abs(),
+            high: 0,
+            scale,
+            negative: coeff < 0,
+        }
+    }
+
+    /// The coefficient, where it has at most 18 digits.
+    #[inline(always)]
+    pub(crate) fn short_coeff(&self) -> Option<i64>
+        ensures value { IfSome result (λ c. c ≡ self.now.coefficient) }
+        ensures digits { IfSome result (λ c. unsigned_abs c < 10 ^ 18) }
+    {
+        if self.high > 0 || self.low >= LEAST_OF_19_DIGITS {
+            return None;
+        }
+        let size = self.low as i64;
+        Some(if self.negative { -size } else { size })
     }
 
     /// The coefficient, below 10^38 in size.

@@ -5,6 +5,7 @@ mod arithmetic;
 mod compare;
 mod decimal;
 mod number;
+mod pair;
 mod powers;
 mod print;
 mod read;
