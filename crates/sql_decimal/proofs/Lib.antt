@@ -9,3 +9,4 @@ pub mod ReadingOn
 pub mod Scaling
 pub mod ReadingBytes
 pub mod ShortPairs
+pub mod PrintedNumbers

@@ -15,7 +15,7 @@ use Rattle.sql_decimal.specs.Reading.{number_of, whole_digits, in_whole, in_frac
 use Rattle.sql_decimal.specs.ReadingBytes.{chars_from, ReadsSpaces, ReadsDigits, EndsBefore}
 
 -- the first character of bytes that begin in ASCII
-first_char : (b : ℕ) (bs : List ℕ) → b < 128 → chars (b ∷ bs) ≡ b ∷ chars bs
+pub first_char : (b : ℕ) (bs : List ℕ) → b < 128 → chars (b ∷ bs) ≡ b ∷ chars bs
 unfolding chars
 first_char b [] low = let t : nat_lt b 128 ≡ true = grind (arith, nat_tests) in rw t refl
 first_char b (c ∷ bs) low = let t : nat_lt b 128 ≡ true = grind (arith, nat_tests) in rw t refl

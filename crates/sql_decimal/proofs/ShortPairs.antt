@@ -15,7 +15,7 @@ use Rattle.sql_decimal.proofs.PowersOfTen.{pow_split, ten_pow_pos}
 use Rattle.sql_decimal.proofs.Scaling.{scale_scale, scale_cmp}
 
 -- a number of few digits is a decimal
-few_digits : (c : ℤ) (s : ℕ) → unsigned_abs c < 10 ^ 38 → s ≤ 38 → is_decimal c s ≡ true
+pub few_digits : (c : ℤ) (s : ℕ) → unsigned_abs c < 10 ^ 38 → s ≤ 38 → is_decimal c s ≡ true
 few_digits c s digits scale = grind (arith, nat_tests)
 
 in_range : (c : ℤ) (s : ℕ) → unsigned_abs c < 10 ^ 38 → s ≤ 38 → Ok (decimal_of c s) ≡ decimal_or_overflow c s

@@ -1,5 +1,5 @@
 -- The two words of 64 bits of a number's size, and its sign.
-use Rattle.std.specs.Prelude.{◌≡◌, ℕ, suc, zero, ◌+◌, ◌*◌, ◌/◌, ◌%◌, ◌^◌, ◌<◌, unsigned_abs, Bool, true, false}
+use Rattle.std.specs.Prelude.{◌≡◌, ℕ, suc, zero, ◌+◌, ◌*◌, ◌/◌, ◌%◌, ◌^◌, ◌<◌, ℤ, pos, negsuc, unsigned_abs, Bool, true, false}
 use Rattle.std.proofs.Common.{refl, ap, ◌∙◌}
 use Rattle.std.proofs.lemmas.Nat.{shr_high, mod_low}
 use Rattle.sql_decimal.specs.Decimal.{signed, is_negative}
@@ -17,6 +17,11 @@ pub unsigned_abs-signed : (b : Bool) (m : ℕ) → unsigned_abs (signed b m) ≡
 unsigned_abs-signed true zero = refl
 unsigned_abs-signed true (suc m) = refl
 unsigned_abs-signed false m = refl
+
+-- a number from its sign and its size
+pub signed_parts : (c : ℤ) → signed (is_negative c) (unsigned_abs c) ≡ c
+signed_parts (pos n) = refl
+signed_parts (negsuc n) = refl
 
 -- its two words
 pub low_word : (b : Bool) (high low : ℕ) → low < 2 ^ 64 → unsigned_abs (signed b (joined high low)) % 2 ^ 64 ≡ low
