@@ -7,7 +7,7 @@ use Rattle.sql_decimal.specs.declared.decimal.NumFault.{NumFault}
 use Rattle.sql_decimal.specs.declared.decimal.NumFault.TheVariants.{Overflow, DivideByZero}
 use Rattle.sql_decimal.specs.Decimal.{Decimal, decimal_of, is_decimal, is_within}
 use Rattle.sql_decimal.specs.Arithmetic.{aligned, common_scale, are_aligned, decimal_or_overflow, sum, difference, product, quotient, remainder, cut_coefficient, cut}
-use Rattle.sql_decimal.specs.Fractions.{numerator, IsSum, IsDifference, IsProduct, IsQuotient, whole_quotient, IsRemainder, IsCut}
+use Rattle.sql_decimal.specs.Fractions.{numerator, IsSum, IsDifference, IsProduct, IsQuotient, IsRemainder, IsCut}
 use Rattle.sql_decimal.proofs.PowersOfTen.{pow_split, ten_pow_pos}
 use Rattle.sql_decimal.proofs.Scaling.{scale_scale, scale_both, neg-mul}
 

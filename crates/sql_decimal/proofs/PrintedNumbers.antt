@@ -1,5 +1,5 @@
 -- What is printed is read as the same number.
-use Rattle.std.proofs.Common.{◌≡◌, ℕ, suc, zero, ◌+◌, ◌-◌, ◌*◌, ◌/◌, ◌%◌, ◌^◌, ◌<◌, ◌≤◌, ℤ, pos, negsuc, unsigned_abs, Bool, true, false, ◌&&◌, ◌==◌, if◌then◌else◌, List, [], ◌∷◌, ◌++◌, length, replicate, length-append, append_assoc, Option, Some, None, IfSome, refl, ap, sym, ◌∙◌, arith}
+use Rattle.std.proofs.Common.{◌≡◌, ℕ, suc, zero, ◌+◌, ◌-◌, ◌*◌, ◌/◌, ◌%◌, ◌^◌, ◌<◌, ◌≤◌, ℤ, pos, negsuc, unsigned_abs, Bool, true, false, ◌==◌, if◌then◌else◌, List, [], ◌∷◌, ◌++◌, length, replicate, length-append, append_assoc, Option, Some, None, refl, ap, sym, ◌∙◌, arith}
 use Rattle.std.specs.Char.{is_ascii_digit, digit_value}
 use Rattle.std.specs.Fmt.{decimal}
 use Rattle.std.specs.Str.{all_ascii_digits, chars}
@@ -11,7 +11,6 @@ use Rattle.std.proofs.lemmas.List.{append-nil, length-replicate}
 use Rattle.std.proofs.lemmas.Map.Views.{exact_unsigned_eq}
 use Rattle.std.proofs.lemmas.Nat.{div-add-mod', mod_below}
 use Rattle.std.proofs.lemmas.Str.{chars-nil}
-use Rattle.sql_decimal.specs.declared.number.Num.{Num}
 use Rattle.sql_decimal.specs.declared.number.Num.TheVariants.{Int, Dec}
 use Rattle.sql_decimal.specs.Decimal.{Decimal, decimal_of, IsDecimal, is_64_bit, is_negative, signed}
 use Rattle.sql_decimal.specs.NumberText.{Sign, minus, minus_sign, decimal_point, print_sign, NumberText, print_number, print_fraction, IsDigits, IsNumberText, is_minus, whole_number, decimal_number, number_of_text}
@@ -203,8 +202,10 @@ chars_printed t d h e = ap chars parts ∙ by d.coefficient ∙ sym parts
   where
     parts : sign_of d.coefficient ++ whole_part d ++ fraction_part d ≡ sign_of d.coefficient ++ (whole_part d ++ fraction_part d)
     parts = append_assoc (sign_of d.coefficient) (whole_part d) (fraction_part d)
+
     body : chars (whole_part d ++ fraction_part d) ≡ whole_part d ++ fraction_part d
     body = chars_digits (whole_part d) (fraction_part d) (whole_digits' d h).all ∙ ap (λ s. whole_part d ++ s) (chars_fraction t d h e)
+
     by : (c : ℤ) → chars (sign_of c ++ (whole_part d ++ fraction_part d)) ≡ sign_of c ++ (whole_part d ++ fraction_part d)
     by (pos n) = body
     by (negsuc n) = first_char minus_sign (whole_part d ++ fraction_part d) (omega arith) ∙ ap (λ s. minus_sign ∷ s) body

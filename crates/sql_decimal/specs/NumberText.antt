@@ -1,7 +1,7 @@
 -- Number texts: spaces, an optional sign, digits with an optional point and digits, an optional
 -- exponent, spaces. A text is a tree, a printer from the tree to its characters, and a fact that
 -- says which trees are valid. The number that a text means stands below.
-use Rattle.std.specs.Prelude.{◌≡◌, ℕ, ◌^◌, ◌<◌, suc, Bool, true, false, ◌==◌, nat_lt, ℤ, pos, negsuc, ◌-ℤ◌, ◌*ℤ◌, List, [], ◌∷◌, ◌++◌, length, replicate, Option, Some, None, IfSome, IsTrue, if◌then◌else◌}
+use Rattle.std.specs.Prelude.{◌≡◌, ℕ, ◌^◌, ◌<◌, suc, Bool, true, false, ◌==◌, ℤ, pos, negsuc, ◌-ℤ◌, ◌*ℤ◌, List, [], ◌∷◌, ◌++◌, length, replicate, Option, Some, None, IfSome, IsTrue, if◌then◌else◌}
 use Rattle.std.specs.Str.{all_ascii_digits}
 use Rattle.std.specs.Str.Parse.{digits_value}
 use Rattle.sql_decimal.specs.declared.number.Num.{Num}

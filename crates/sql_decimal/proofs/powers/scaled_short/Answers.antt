@@ -1,4 +1,4 @@
-use Rattle.std.proofs.Common.{arith, sym, subst, ℤ, ◌<◌, ◌^◌, pos, ◌*ℤ◌, unsigned_abs}
+use Rattle.std.proofs.Common.{arith, sym, subst, ℤ, ◌<◌, ◌^◌, unsigned_abs}
 use Rattle.std.proofs.lemmas.Int.{to_z-of_z}
 use Rattle.sql_decimal.proofs.PowersOfTen.{scaled_within, fits_short_power, fits_short_product, short_product_is}
 use Rattle.sql_decimal.proofs.powers.scaled_short.Goals as goal

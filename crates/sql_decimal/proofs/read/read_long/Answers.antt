@@ -1,4 +1,4 @@
-use Rattle.std.proofs.Common.{◌∙◌, sym, ap}
+use Rattle.std.proofs.Common.{◌∙◌, sym}
 use Rattle.std.specs.Str.{chars}
 use Rattle.std.proofs.lemmas.Str.{Chars-gives, encodes-chars}
 use Rattle.sql_decimal.proofs.read.read_long.Goals as goal
