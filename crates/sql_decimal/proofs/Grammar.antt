@@ -6,7 +6,8 @@ use Rattle.std.specs.Str.Parse.{digits_value, digits_value_after}
 use Rattle.std.proofs.lemmas.Bool.{ne_eqb}
 use Rattle.std.proofs.lemmas.Bool.Decides.{nat_tests}
 use Rattle.sql_decimal.specs.declared.number.Num.{Num}
-use Rattle.sql_decimal.specs.NumberText.{space, plus_sign, minus_sign, capital_e, small_e, Sign, plus, minus, print_sign, Exponent, print_exponent, NumberText, print_fraction, print_number, IsDigits, IsNumberText, is_minus, signed, decimal_number, scaled_number, all_digits, number_from, number_of_text}
+use Rattle.sql_decimal.specs.Decimal.{signed}
+use Rattle.sql_decimal.specs.NumberText.{space, plus_sign, minus_sign, capital_e, small_e, Sign, plus, minus, print_sign, Exponent, print_exponent, NumberText, print_fraction, print_number, IsDigits, IsNumberText, is_minus, decimal_number, scaled_number, all_digits, number_from, number_of_text}
 use Rattle.sql_decimal.specs.Reading.{with_digit, after_number, in_exponent, exponent_digits, after_mark, in_fraction, fraction_digits, in_whole, whole_digits, number_of}
 
 -- both tests pass

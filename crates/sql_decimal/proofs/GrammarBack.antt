@@ -5,7 +5,8 @@ use Rattle.std.specs.Str.{all_ascii_digits}
 use Rattle.std.specs.Str.Parse.{digits_value, digits_value_after}
 use Rattle.std.proofs.lemmas.Map.Views.{exact_unsigned_eq}
 use Rattle.sql_decimal.specs.declared.number.Num.{Num}
-use Rattle.sql_decimal.specs.NumberText.{space, plus_sign, minus_sign, decimal_point, capital_e, small_e, Sign, plus, minus, print_sign, Exponent, print_exponent, print_fraction, IsDigits, is_minus, signed, decimal_number, whole_number, scaled_number, number_from, number_of_text, Spells}
+use Rattle.sql_decimal.specs.Decimal.{signed}
+use Rattle.sql_decimal.specs.NumberText.{space, plus_sign, minus_sign, decimal_point, capital_e, small_e, Sign, plus, minus, print_sign, Exponent, print_exponent, print_fraction, IsDigits, is_minus, decimal_number, whole_number, scaled_number, number_from, number_of_text, Spells}
 use Rattle.sql_decimal.specs.Reading.{is_mark, with_digit, after_number, in_exponent, exponent_digits, after_mark, in_fraction, fraction_digits, in_whole, whole_digits, number_of}
 use Rattle.sql_decimal.proofs.Grammar.{digits_value-first, fixed_from, value_on, value_on-all, number_of-print_number}
 

@@ -7,3 +7,6 @@ pub mod Outcomes
 pub mod PowersOfTen
 pub mod ReadingOn
 pub mod Scaling
+pub mod ReadingBytes
+pub mod ShortPairs
+pub mod PrintedNumbers

@@ -5,16 +5,11 @@ use Rattle.std.proofs.lemmas.Bool.Decides.{nat_tests}
 use Rattle.std.proofs.lemmas.Bool.{cases_lt}
 use Rattle.std.proofs.lemmas.Int.{ints, unsigned_abs-mul}
 use Rattle.sql_decimal.specs.declared.number.Num.TheVariants.{Dec}
-use Rattle.sql_decimal.specs.Decimal.{is_decimal, decimal_of}
-use Rattle.sql_decimal.specs.NumberText.{space, plus_sign, minus_sign, decimal_point, signed, decimal_number, is_64_bit, whole_number, shifted_number, scaled_number}
+use Rattle.sql_decimal.specs.Decimal.{is_64_bit, is_decimal, decimal_of, signed}
+use Rattle.sql_decimal.specs.NumberText.{space, plus_sign, minus_sign, decimal_point, decimal_number, whole_number, shifted_number, scaled_number}
 use Rattle.sql_decimal.specs.Reading.{is_mark, with_digit, after_number, in_exponent, exponent_digits, after_mark, in_fraction, fraction_digits, in_whole}
 use Rattle.sql_decimal.proofs.PowersOfTen.{ten_pow_pos, scaled_far_over}
-
--- the size of a signed number
-pub unsigned_abs-signed : (b : Bool) (m : ℕ) → unsigned_abs (signed b m) ≡ m
-unsigned_abs-signed true zero = refl
-unsigned_abs-signed true (suc m) = refl
-unsigned_abs-signed false m = refl
+use Rattle.sql_decimal.specs.Words.{unsigned_abs-signed}
 
 -- a choice by a test that fails
 choice-no : {A : Type 0} (t : Bool) (x y : A) → t ≡ false → (if t then x else y) ≡ y

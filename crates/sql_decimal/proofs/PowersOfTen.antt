@@ -1,8 +1,8 @@
 -- The table of powers of ten, and when a multiple by one of them has at most 38 digits.
-use Rattle.std.proofs.Common.{◌≡◌, ℕ, suc, zero, ◌+◌, ◌-◌, ◌*◌, ◌^◌, ◌<◌, ◌≤◌, ℤ, pos, ◌*ℤ◌, unsigned_abs, FitsSigned, to_z, of_z, Bool, true, ◌&&◌, ◌==◌, IsTrue, List, [], ◌∷◌, length, get_or, ap, sym, ◌∙◌, subst, arith}
+use Rattle.std.proofs.Common.{◌≡◌, ℕ, suc, zero, ◌+◌, ◌-◌, ◌*◌, ◌^◌, ◌<◌, ◌≤◌, ℤ, pos, ◌*ℤ◌, unsigned_abs, FitsSigned, to_z, of_z, Bool, true, ◌&&◌, ◌==◌, IsTrue, List, [], ◌∷◌, length, get_or, refl, ap, sym, ◌∙◌, subst, arith}
 use Rattle.std.proofs.lemmas.Nat.{pow-add}
 use Rattle.std.proofs.lemmas.Int.{unsigned_abs-mul, fits_signed_from_abs, to_z-of_z, to_z_pos}
-use Rattle.std.specs.Int.{w128}
+use Rattle.std.specs.Int.{w64, w128}
 use Rattle.std.proofs.Math.Nat.{one-le-pow, mul-lt-mul_of_pos_right, mul-le-mul_right, pow-le-pow_right}
 
 -- the list has the powers of ten from 10 ^ k on
@@ -84,3 +84,29 @@ scaled_is x c d k e (small, f) =
     let P : ℤ → Type 0 = λ z. unsigned_abs z < 10 ^ 38 in
     let same = passed x (c *ℤ pos (10 ^ k)) (subst P (sym f) small) f in
     (subst P (sym same) small, same ∙ ap (λ z. z *ℤ pos (10 ^ k)) e)
+
+-- ---- at most 18 digits, in 64 bits
+
+pub short_power-le : (p k : ℕ) → p ≡ 10 ^ k → k ≤ 18 → p ≤ 10 ^ 18
+short_power-le p k e h = rw e (pow-le-pow_right {n = 10} (omega arith) {i = k} {j = 18} h)
+
+pub fits_short_power : (p k : ℕ) → p ≡ 10 ^ k → k ≤ 18 → FitsSigned w64 (pos p)
+fits_short_power p k e h = let low : p ≤ 10 ^ 18 = short_power-le p k e h in fits_signed_from_abs w64 (pos p) (omega arith)
+
+pub fits_short : (z : ℤ) → unsigned_abs z < 10 ^ 18 → FitsSigned w64 z
+fits_short z h = fits_signed_from_abs w64 z (omega arith)
+
+-- what the code multiplies, and its product
+short_factors : (c : ℤ) (p k : ℕ) → unsigned_abs c < 10 ^ 18 → p ≡ 10 ^ k → k ≤ 18 → to_z w64 (of_z w64 c) *ℤ to_z w64 p ≡ c *ℤ pos (10 ^ k)
+short_factors c p k digits e h =
+    let low : p ≤ 10 ^ 18 = short_power-le p k e h in
+    rw (to_z-of_z w64 c (fits_short c digits), to_z_pos w64 p (omega arith), e) refl
+
+pub fits_short_product : (c : ℤ) (p k : ℕ) → unsigned_abs c < 10 ^ 18 → p ≡ 10 ^ k → k ≤ 18 → unsigned_abs (c *ℤ pos (10 ^ k)) < 10 ^ 18
+    → FitsSigned w64 (to_z w64 (of_z w64 c) *ℤ to_z w64 p)
+fits_short_product c p k digits e h small = rw (short_factors c p k digits e h) (fits_short (c *ℤ pos (10 ^ k)) small)
+
+pub short_product_is : (c : ℤ) (p k : ℕ) → unsigned_abs c < 10 ^ 18 → p ≡ 10 ^ k → k ≤ 18 → unsigned_abs (c *ℤ pos (10 ^ k)) < 10 ^ 18
+    → to_z w64 (of_z w64 (to_z w64 (of_z w64 c) *ℤ to_z w64 p)) ≡ c *ℤ pos (10 ^ k)
+short_product_is c p k digits e h small =
+    ap (λ z. to_z w64 (of_z w64 z)) (short_factors c p k digits e h) ∙ to_z-of_z w64 (c *ℤ pos (10 ^ k)) (fits_short (c *ℤ pos (10 ^ k)) small)

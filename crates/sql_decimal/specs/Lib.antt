@@ -5,3 +5,6 @@ pub mod NumberText
 pub mod Printing
 pub mod Reading
 pub mod Resume
+pub mod Words
+pub mod ReadingBytes
+pub mod ShortPairs

@@ -1,12 +1,12 @@
 -- Number texts: spaces, an optional sign, digits with an optional point and digits, an optional
 -- exponent, spaces. A text is a tree, a printer from the tree to its characters, and a fact that
 -- says which trees are valid. The number that a text means stands below.
-use Rattle.std.specs.Prelude.{◌≡◌, ℕ, ◌^◌, ◌<◌, suc, Bool, true, false, ◌==◌, nat_lt, ℤ, pos, negsuc, neg_ℤ, ◌-ℤ◌, ◌*ℤ◌, List, [], ◌∷◌, ◌++◌, length, replicate, Option, Some, None, IfSome, IsTrue, if◌then◌else◌}
+use Rattle.std.specs.Prelude.{◌≡◌, ℕ, ◌^◌, ◌<◌, suc, Bool, true, false, ◌==◌, ℤ, pos, negsuc, ◌-ℤ◌, ◌*ℤ◌, List, [], ◌∷◌, ◌++◌, length, replicate, Option, Some, None, IfSome, IsTrue, if◌then◌else◌}
 use Rattle.std.specs.Str.{all_ascii_digits}
 use Rattle.std.specs.Str.Parse.{digits_value}
 use Rattle.sql_decimal.specs.declared.number.Num.{Num}
 use Rattle.sql_decimal.specs.declared.number.Num.TheVariants.{Int, Dec}
-use Rattle.sql_decimal.specs.Decimal.{decimal_of, is_decimal}
+use Rattle.sql_decimal.specs.Decimal.{decimal_of, is_decimal, is_64_bit, signed}
 
 -- the characters
 abbrev pub space : ℕ
@@ -83,19 +83,9 @@ is_minus None = false
 is_minus (Some plus) = false
 is_minus (Some minus) = true
 
--- n, or the negation of n
-abbrev pub signed : Bool → ℕ → ℤ
-signed true n = neg_ℤ (pos n)
-signed false n = pos n
-
 -- c / 10 ^ s, where that is a decimal
 abbrev pub decimal_number : ℤ → ℕ → Option Num
 decimal_number c s = if is_decimal c s then Some (Dec (decimal_of c s)) else None
-
--- a whole number within 64 bits
-abbrev pub is_64_bit : ℤ → Bool
-is_64_bit (pos n) = nat_lt n (2 ^ 63)
-is_64_bit (negsuc n) = nat_lt n (2 ^ 63)
 
 -- digits of the value m, without a point and an exponent: an Int within 64 bits, else a decimal
 abbrev pub whole_number : Bool → ℕ → Option Num

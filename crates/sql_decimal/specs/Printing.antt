@@ -1,6 +1,8 @@
 -- The text of a decimal.
-use Rattle.std.specs.Prelude.{ℕ, ◌-◌, ◌/◌, ◌%◌, ◌^◌, ◌==◌, ℤ, pos, negsuc, unsigned_abs, List, [], ◌∷◌, ◌++◌, length, replicate, if◌then◌else◌, decimal}
-use Rattle.sql_decimal.specs.Decimal.{Decimal}
+use Rattle.std.specs.Prelude.{ℕ, ◌-◌, ◌/◌, ◌%◌, ◌^◌, ◌==◌, ◌&&◌, ℤ, pos, negsuc, unsigned_abs, List, [], ◌∷◌, ◌++◌, length, replicate, if◌then◌else◌, decimal}
+use Rattle.sql_decimal.specs.declared.number.Num.{Num}
+use Rattle.sql_decimal.specs.declared.number.Num.TheVariants.{Int, Dec}
+use Rattle.sql_decimal.specs.Decimal.{Decimal, is_64_bit}
 use Rattle.sql_decimal.specs.NumberText.{minus_sign, decimal_point}
 
 -- the character 0
@@ -28,3 +30,7 @@ fraction_part d =
 -- the text of d
 unfoldable pub printed : Decimal → List ℕ
 printed d = sign_of d.coefficient ++ whole_part d ++ fraction_part d
+
+-- the number that this text spells: an Int where it has no point and is within 64 bits
+abbrev pub read_back : Decimal → Num
+read_back d = if (d.scale == 0) && is_64_bit d.coefficient then Int d.coefficient else Dec d

@@ -1,8 +1,10 @@
 -- The number that a list of characters spells, as a function that goes through the list once.
-use Rattle.std.specs.Prelude.{ℕ, ◌+◌, ◌*◌, Bool, true, false, ◌||◌, ◌==◌, List, [], ◌∷◌, Option, None, if◌then◌else◌}
+use Rattle.std.specs.Prelude.{ℕ, ◌+◌, ◌*◌, Bool, true, false, ◌||◌, ◌==◌, List, [], ◌∷◌, Option, Some, None, ℤ, if◌then◌else◌}
 use Rattle.std.specs.Char.{is_ascii_digit, digit_value}
 use Rattle.sql_decimal.specs.declared.number.Num.{Num}
-use Rattle.sql_decimal.specs.NumberText.{space, plus_sign, minus_sign, decimal_point, capital_e, small_e, signed, decimal_number, whole_number, scaled_number}
+use Rattle.sql_decimal.specs.declared.number.Num.TheVariants.{Int, Dec}
+use Rattle.sql_decimal.specs.Decimal.{signed}
+use Rattle.sql_decimal.specs.NumberText.{space, plus_sign, minus_sign, decimal_point, capital_e, small_e, decimal_number, whole_number, scaled_number}
 
 -- the mark of an exponent
 abbrev pub is_mark : ℕ → Bool
@@ -69,3 +71,9 @@ number_of (c ∷ cs) =
     if c == space then number_of cs
     else (if c == minus_sign then whole_digits true cs
     else (if c == plus_sign then whole_digits false cs else whole_digits false (c ∷ cs)))
+
+-- the Int that it is, if it is one
+abbrev pub int_of : Option Num → Option ℤ
+int_of None = None
+int_of (Some (Int z)) = Some z
+int_of (Some (Dec d)) = None

@@ -5,7 +5,8 @@ use Rattle.sql_decimal.specs.declared.number.Num.{Num}
 use Rattle.sql_decimal.specs.declared.reader.Place.{Place}
 use Rattle.sql_decimal.specs.declared.reader.Place.TheVariants.{Before, Sign, Whole, Point, Fraction, Mark, ExponentSign, Exponent, AfterWhole, AfterFraction, AfterExponent}
 use Rattle.sql_decimal.specs.declared.reader.Reader.{Reader}
-use Rattle.sql_decimal.specs.NumberText.{signed, decimal_number, whole_number, scaled_number}
+use Rattle.sql_decimal.specs.Decimal.{signed}
+use Rattle.sql_decimal.specs.NumberText.{decimal_number, whole_number, scaled_number}
 use Rattle.sql_decimal.specs.Reading.{number_of, whole_digits, in_whole, fraction_digits, in_fraction, after_mark, exponent_digits, in_exponent, after_number}
 
 -- at each place

@@ -1,12 +1,13 @@
 //! The arithmetic of decimals.
 ghost use Rattle.std.specs.Prelude.{◌≡◌, ◌≢◌, ◌^◌, ◌<◌, ◌≤◌, ℤ, pos, ◌+ℤ◌, ◌-ℤ◌, ◌*ℤ◌, int_div, int_rem, unsigned_abs, true, IsTrue, IfSome, IfOk, if◌then◌else◌};
 ghost use Rattle.std.specs.Option.{SomeIff};
-ghost use Rattle.sql_decimal.specs.Decimal.{Decimal, decimal_of, is_within};
-ghost use Rattle.sql_decimal.specs.Fractions.{IsSum, IsDifference, IsProduct, IsQuotient};
+ghost use Rattle.sql_decimal.specs.Decimal.{Decimal, decimal_of, is_64_bit, is_within, whole_of};
+ghost use Rattle.sql_decimal.specs.Fractions.{IsSum, IsDifference, IsProduct, IsQuotient, IsRemainder, IsCut};
 ghost use Rattle.sql_decimal.specs.Arithmetic.{aligned, common_scale, are_aligned, decimal_or_overflow, cut_coefficient, sum, difference, product, quotient, remainder, cut};
 
 use crate::decimal::{Dec, NumFault};
-use crate::powers::{power_of_ten, scaled};
+use crate::pair::short_pair;
+use crate::powers::{power_of_ten, scaled, scaled_short};
 
 /// The least scale of a quotient.
 const QUOTIENT_SCALE: u8 = 6;
@@ -147,28 +148,26 @@ impl Dec {
     /// The sum, at the larger scale.
     ///
     /// Overflow where a number aligned to that scale, or the sum, has more than 38 digits.
-    #[tactic(auto, unfolding(crate::specs::Arithmetic::sum))]
     pub fn add(&self, other: &Dec) -> Result<Dec, NumFault>
         ensures value { result ≡ sum self.now other.now }
         ensures fraction { IfOk result (IsSum self.now other.now) }
     {
-        match align(self, other) {
-            Some(pair) => plus(pair.left, pair.right, pair.scale),
-            None => Err(NumFault::Overflow),
+        match short_pair(self, other) {
+            Some(pair) => Ok(Dec::short(pair.left + pair.right, pair.scale)),
+            None => self.add_long(other),
         }
     }
 
     /// The difference, at the larger scale.
     ///
     /// Overflow where a number aligned to that scale, or the difference, has more than 38 digits.
-    #[tactic(auto, unfolding(crate::specs::Arithmetic::difference))]
     pub fn sub(&self, other: &Dec) -> Result<Dec, NumFault>
         ensures value { result ≡ difference self.now other.now }
         ensures fraction { IfOk result (IsDifference self.now other.now) }
     {
-        match align(self, other) {
-            Some(pair) => minus(pair.left, pair.right, pair.scale),
-            None => Err(NumFault::Overflow),
+        match short_pair(self, other) {
+            Some(pair) => Ok(Dec::short(pair.left - pair.right, pair.scale)),
+            None => self.sub_long(other),
         }
     }
 
@@ -209,7 +208,8 @@ impl Dec {
     /// more than 38 digits.
     #[tactic(auto, unfolding(crate::specs::Arithmetic::remainder))]
     pub fn rem(&self, other: &Dec) -> Result<Dec, NumFault>
-        ensures { result ≡ remainder self.now other.now }
+        ensures value { result ≡ remainder self.now other.now }
+        ensures fraction { IfOk result (IsRemainder self.now other.now) }
     {
         if other.coeff() == 0 {
             return Err(NumFault::DivideByZero);
@@ -228,10 +228,51 @@ impl Dec {
         requires at_least_one { 1 ≤ digits }
         requires at_most { digits ≤ 38 }
         requires scale { scale ≤ digits }
-        ensures { result ≡ cut self.now digits scale }
+        ensures value { result ≡ cut self.now digits scale }
+        ensures fraction { IfOk result (IsCut self.now) }
     {
         match self.at_scale(scale) {
             Some(coeff) => within(coeff, digits, scale),
+            None => Err(NumFault::Overflow),
+        }
+    }
+
+    /// The number cut toward zero to a whole number, at scale 0.
+    pub fn whole(&self) -> Dec
+        ensures { result ≡ decimal_of (whole_of self.now) 0 }
+    {
+        Dec::of(self.whole_coeff(), 0)
+    }
+
+    /// The number cut toward zero to a whole number, or None where that is out of 64 bits.
+    pub fn to_int(&self) -> Option<i64>
+        ensures { SomeIff result (IsTrue (is_64_bit (whole_of self.now))) (whole_of self.now) }
+    {
+        i64::try_from(self.whole_coeff()).ok()
+    }
+}
+
+impl Dec {
+    /// The sum of numbers of any size.
+    #[tactic(auto, unfolding(crate::specs::Arithmetic::sum))]
+    #[inline(never)]
+    fn add_long(&self, other: &Dec) -> Result<Dec, NumFault>
+        ensures { result ≡ sum self.now other.now }
+    {
+        match align(self, other) {
+            Some(pair) => plus(pair.left, pair.right, pair.scale),
+            None => Err(NumFault::Overflow),
+        }
+    }
+
+    /// The difference of numbers of any size.
+    #[tactic(auto, unfolding(crate::specs::Arithmetic::difference))]
+    #[inline(never)]
+    fn sub_long(&self, other: &Dec) -> Result<Dec, NumFault>
+        ensures { result ≡ difference self.now other.now }
+    {
+        match align(self, other) {
+            Some(pair) => minus(pair.left, pair.right, pair.scale),
             None => Err(NumFault::Overflow),
         }
     }
@@ -246,5 +287,13 @@ impl Dec {
         } else {
             Some(divided(self.coeff(), power_of_ten(self.scale() - scale) as i128))
         }
+    }
+
+    /// The whole number that the number is cut to, toward zero.
+    fn whole_coeff(&self) -> i128
+        ensures value { result ≡ whole_of self.now }
+        ensures digits { unsigned_abs result < 10 ^ 38 }
+    {
+        divided(self.coeff(), power_of_ten(self.scale()) as i128)
     }
 }

@@ -4,6 +4,7 @@ ghost use Rattle.std.specs.Ordering.{int_cmp};
 ghost use Rattle.sql_decimal.specs.Decimal.{compared};
 
 use crate::decimal::Dec;
+use crate::pair::short_pair;
 use crate::powers::scaled;
 use std::cmp::Ordering;
 
@@ -22,8 +23,19 @@ fn compare_scaled(left: i128, by: u8, right: i128) -> Ordering
 
 impl Dec {
     /// The order of the two numbers, whatever their scales: 1.0 and 1.00 are equal.
-    #[tactic(auto, unfolding(crate::specs::Decimal::compared))]
     pub fn compare(&self, other: &Dec) -> Ordering
+        ensures { result ≡ compared self.now other.now }
+    {
+        match short_pair(self, other) {
+            Some(pair) => pair.left.cmp(&pair.right),
+            None => self.compare_long(other),
+        }
+    }
+
+    /// The order of numbers of any size.
+    #[tactic(auto, unfolding(crate::specs::Decimal::compared))]
+    #[inline(never)]
+    fn compare_long(&self, other: &Dec) -> Ordering
         ensures { result ≡ compared self.now other.now }
     {
         if self.scale() <= other.scale() {

@@ -5,10 +5,12 @@ mod arithmetic;
 mod compare;
 mod decimal;
 mod number;
+mod pair;
 mod powers;
 mod print;
 mod read;
 mod reader;
+mod short;
 #[cfg(test)]
 mod tests;
 

@@ -1,5 +1,5 @@
 //! Powers of ten, as a table.
-ghost use Rattle.std.specs.Prelude.{◌≡◌, ◌^◌, ◌<◌, ◌≤◌, ◌*ℤ◌, pos, unsigned_abs};
+ghost use Rattle.std.specs.Prelude.{◌≡◌, ◌^◌, ◌<◌, ◌≤◌, ◌*ℤ◌, pos, unsigned_abs, IfSome};
 ghost use Rattle.std.specs.Option.{SomeIff};
 
 /// 10^k at each index k.
@@ -64,6 +64,32 @@ pub(crate) fn scaled(coeff: i128, by: u8) -> Option<i128>
     }
     if coeff.unsigned_abs() < power_of_ten(38 - by) {
         Some(coeff * power_of_ten(by) as i128)
+    } else {
+        None
+    }
+}
+
+/// 10^exponent, in 64 bits.
+#[inline(always)]
+pub(crate) fn short_power(exponent: u8) -> u64
+    requires { exponent ≤ 18 }
+    ensures { result ≡ 10 ^ exponent }
+{
+    power_of_ten(exponent) as u64
+}
+
+/// `coeff` times 10^by, where that has at most 18 digits.
+#[inline(always)]
+pub(crate) fn scaled_short(coeff: i64, by: u8) -> Option<i64>
+    requires { unsigned_abs coeff < 10 ^ 18 }
+    ensures value { IfSome result (λ c. c ≡ coeff *ℤ pos (10 ^ by)) }
+    ensures digits { IfSome result (λ c. unsigned_abs c < 10 ^ 18) }
+{
+    if by == 0 {
+        return Some(coeff);
+    }
+    if by <= 18 && coeff.unsigned_abs() < short_power(18 - by) {
+        Some(coeff * short_power(by) as i64)
     } else {
         None
     }

@@ -1,7 +1,10 @@
 //! Decimals as text.
-ghost use Rattle.std.specs.Prelude.{◌≡◌, ◌+◌, ◌-◌, ◌^◌, ◌<◌, ◌≤◌, ◌/◌, ◌%◌, ◌++◌, length, decimal};
+ghost use Rattle.std.specs.Prelude.{◌≡◌, ◌+◌, ◌-◌, ◌^◌, ◌<◌, ◌≤◌, ◌/◌, ◌%◌, ◌++◌, length, decimal, Some};
 ghost use Rattle.arrayvec.specs.ArrayString.{array_string_len};
-ghost use Rattle.sql_decimal.specs.Printing.{sign_of, padded, printed};
+ghost use Rattle.sql_decimal.specs.Decimal.{IsDecimal};
+ghost use Rattle.sql_decimal.specs.Printing.{sign_of, padded, printed, read_back};
+ghost use Rattle.sql_decimal.specs.Reading.{number_of};
+ghost use Rattle.std.specs.Str.{chars};
 
 use crate::decimal::Dec;
 use crate::powers::power_of_ten;
@@ -52,7 +55,10 @@ fn push_number(text: &mut DecimalText, number: u128)
     ensures { text.new.bytes ≡ text.old.bytes ++ decimal number }
 {
     let mut buffer = itoa::Buffer::new();
-    text.push_str(buffer.format(number));
+    match u64::try_from(number) {
+        Ok(short) => text.push_str(buffer.format(short)),
+        Err(_) => text.push_str(buffer.format(number)),
+    }
 }
 
 /// Appends the digits of `number`, with zeros in front where there are fewer than `width`.
@@ -72,13 +78,23 @@ fn push_padded(text: &mut DecimalText, number: u128, width: usize)
 
 impl Dec {
     /// The number with all the digits of its scale, and one digit at least before the point:
-    /// `0.50` for 50 at scale 2, `-7` for -7 at scale 0.
-    #[tactic(auto, unfolding(crate::specs::Printing::printed))]
+    /// `0.50` for 50 at scale 2, `-7` for -7 at scale 0. It is read as the same number.
     pub fn print(&self) -> ArrayString<48>
-        ensures { result.bytes ≡ printed self.now }
+        ensures text { result.bytes ≡ printed self.now }
+        ensures reads_back { number_of (chars result.bytes) ≡ Some (read_back self.now) }
+    {
+        self.written()
+    }
+
+    /// The text of the number.
+    #[tactic(auto, unfolding(crate::specs::Printing::printed))]
+    #[inline(always)]
+    fn written(&self) -> DecimalText
+        ensures text { result.bytes ≡ printed self.now }
+        ensures sound { IsDecimal self.now }
     {
         let mut text = sign(self.coeff());
-        let (whole, fraction) = parts(self.coeff().unsigned_abs(), self.scale());
+        let (whole, fraction) = parts(self.size(), self.scale());
         push_number(&mut text, whole);
         if self.scale() > 0 {
             text.push('.');

@@ -3,11 +3,13 @@ ghost use Rattle.std.specs.Prelude.{◌≡◌, ℕ, List, ◌^◌, ◌<◌, Matc
 ghost use Rattle.std.specs.Iterator.{IsFinite, size, AlwaysYields};
 ghost use Rattle.sql_decimal.specs.NumberText.{Spells};
 ghost use Rattle.sql_decimal.specs.declared.number.Num.{Num};
-ghost use Rattle.sql_decimal.specs.Reading.{number_of};
+ghost use Rattle.std.specs.Str.{chars};
+ghost use Rattle.sql_decimal.specs.Reading.{number_of, int_of};
 
 use crate::decimal::Dec;
 use crate::number::Num;
 use crate::reader::Reader;
+use crate::short::short;
 
 impl Dec {
     /// The number that the characters spell: spaces, an optional sign, digits with an optional point
@@ -30,4 +32,33 @@ impl Dec {
         }
         reader.finish()
     }
+    /// The number that the text spells, as `read` gives it for its characters. A few nanoseconds
+    /// where it has at most 18 digits and no exponent.
+    pub fn read_str(text: &str) -> Option<Num>
+        ensures number { result ≡ number_of (chars text.now) }
+        ensures grammar { MatchOption result ((n : Num) → ¬ Spells (chars text.now) n) (Spells (chars text.now)) }
+    {
+        match short(text.as_bytes()) {
+            Some(number) => Some(number),
+            None => read_long(text),
+        }
+    }
+
+    /// The Int that the text spells, or None where it spells a decimal or no number.
+    pub fn read_int(text: &str) -> Option<i64>
+        ensures { result ≡ int_of (number_of (chars text.now)) }
+    {
+        match Dec::read_str(text)? {
+            Num::Int(int) => Some(int),
+            Num::Dec(_) => None,
+        }
+    }
+}
+
+/// The number that the text spells, character by character.
+#[inline(never)]
+fn read_long(text: &str) -> Option<Num>
+    ensures { result ≡ number_of (chars text.now) }
+{
+    Dec::read(text.chars())
 }

@@ -3,7 +3,8 @@ ghost use Rattle.std.specs.Bool.{MatchBool};
 ghost use Rattle.std.specs.Prelude.{◌≡◌, ℕ, List, ◌∷◌, ◌+◌, ◌*◌, ◌-◌, ◌^◌, ◌<◌, ◌≤◌, [], if◌then◌else◌, Some, None, true, false, IfSome, min, unsigned_abs, ◌*ℤ◌, pos};
 ghost use Rattle.std.specs.Option.{SomeIff};
 ghost use Rattle.std.specs.Char.{is_ascii_digit, digit_value};
-ghost use Rattle.sql_decimal.specs.NumberText.{signed, whole_number, decimal_number, scaled_number};
+ghost use Rattle.sql_decimal.specs.Decimal.{signed};
+ghost use Rattle.sql_decimal.specs.NumberText.{whole_number, decimal_number, scaled_number};
 ghost use Rattle.sql_decimal.specs.Reading.{number_of, whole_digits, in_whole, in_fraction, exponent_digits, with_digit};
 ghost use Rattle.sql_decimal.specs.Resume.{resume, Takes};
 

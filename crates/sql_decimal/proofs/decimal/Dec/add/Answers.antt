@@ -1,20 +1,11 @@
-use Rattle.std.proofs.Common.{ap, sym, subst, to_z, of_z, Result, IfOk}
-use Rattle.std.specs.Int.{w128}
-use Rattle.sql_decimal.specs.declared.arithmetic.Aligned.{Aligned}
-use Rattle.sql_decimal.specs.declared.decimal.NumFault.{NumFault}
-use Rattle.sql_decimal.specs.Decimal.{Decimal}
-use Rattle.sql_decimal.specs.Fractions.{IsSum}
-use Rattle.sql_decimal.proofs.FractionLaws.{sum-is}
-use Rattle.sql_decimal.proofs.PowersOfTen.{passed}
-use Rattle.sql_decimal.proofs.Outcomes.{sum_in_range}
+use Rattle.sql_decimal.proofs.ShortPairs.{added, sum_of_pair, sum_fraction}
 use Rattle.sql_decimal.proofs.decimal.Dec.add.Goals as goal
 
 pub returns-in-Some : goal.returns-in-Some
 returns-in-Some c =
-    let value = sum_in_range c.args.self.now c.args.other.now _ (to_z w128 (of_z w128 c.in-Some.pair.left)) (to_z w128 (of_z w128 c.in-Some.pair.right)) c.in-Some.pair.scale c.plus.ensures
-    c.in-Some.ensures.value.0
-    (passed c.in-Some.pair.left _ c.in-Some.ensures.left_digits (ap (λ (p : Aligned). p.left) c.in-Some.ensures.value.1))
-    (passed c.in-Some.pair.right _ c.in-Some.ensures.right_digits (ap (λ (p : Aligned). p.right) c.in-Some.ensures.value.1))
-    (ap (λ (p : Aligned). p.scale) c.in-Some.ensures.value.1) in
-    let P : Result Decimal NumFault → Type 0 = λ r. IfOk r (IsSum c.args.self.now c.args.other.now) in
-    record { value = value; fraction = subst P (sym value) (sum-is c.args.self.now c.args.other.now) }
+    let pair = c.in-Some.ensures in
+    let value = sum_of_pair c.args.self.now c.args.other.now c.short.result c.in-Some.pair _ pair c.short.ensures (added c.in-Some.pair.left c.in-Some.pair.right pair.left_digits pair.right_digits) in
+    record { value = value; fraction = sum_fraction c.args.self.now c.args.other.now _ value }
+
+pub returns-in-None : goal.returns-in-None
+returns-in-None c = record { value = c.add_long.ensures; fraction = sum_fraction c.args.self.now c.args.other.now c.add_long.result c.add_long.ensures }
