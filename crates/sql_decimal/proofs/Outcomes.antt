@@ -35,13 +35,6 @@ quotient_in_range a b r n d s answer ne e f g small =
     let fits = within-true 38 (a.coefficient *ℤ pos (10 ^ (max (common_scale a b) 6 - a.scale + b.scale))) (subst P (g ∙ ap (λ t. a.coefficient *ℤ pos (10 ^ (t - a.scale + b.scale))) f) small) in
     answer ∙ rw (e, g, f) (rw (some, fits) refl)
 
--- both aligned operands have at most 38 digits
-pub left_within : (a b : Decimal) → IsTrue (are_aligned a b) → unsigned_abs (aligned a (common_scale a b)) < 10 ^ 38
-left_within a b t = grind (arith, nat_tests)
-
-pub right_within : (a b : Decimal) → IsTrue (are_aligned a b) → unsigned_abs (aligned b (common_scale a b)) < 10 ^ 38
-right_within a b t = grind (arith, nat_tests)
-
 -- a remainder whose divisor is not zero, and whose operands fit at the larger scale
 pub remainder_in_range : (a b : Decimal) (r : Result Decimal NumFault) (x y : ℤ) (s : ℕ) → r ≡ decimal_or_overflow (int_rem x y) s
     → b.coefficient ≢ pos 0 → IsTrue (are_aligned a b) → x ≡ aligned a (common_scale a b) → y ≡ aligned b (common_scale a b) → s ≡ common_scale a b

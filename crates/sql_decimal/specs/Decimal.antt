@@ -23,10 +23,6 @@ is_negative (pos n) = false
 is_negative (negsuc n) = true
 
 -- c has at most p digits
-abbrev pub IsWithin : ℕ → ℤ → Type 0
-IsWithin p c = unsigned_abs c < 10 ^ p
-
--- the same as a test
 abbrev pub is_within : ℕ → ℤ → Bool
 is_within p c = nat_lt (unsigned_abs c) (10 ^ p)
 

@@ -9,7 +9,7 @@ ghost use Rattle.sql_decimal.specs.Reading.{number_of, int_of};
 use crate::decimal::Dec;
 use crate::number::Num;
 use crate::reader::Reader;
-use crate::short::short;
+use crate::short::{short, short_int};
 
 impl Dec {
     /// The number that the characters spell: spaces, an optional sign, digits with an optional point
@@ -48,10 +48,21 @@ impl Dec {
     pub fn read_int(text: &str) -> Option<i64>
         ensures { result ≡ int_of (number_of (chars text.now)) }
     {
-        match Dec::read_str(text)? {
-            Num::Int(int) => Some(int),
-            Num::Dec(_) => None,
+        match short_int(text.as_bytes()) {
+            Some(int) => Some(int),
+            None => read_long_int(text),
         }
+    }
+}
+
+/// The Int that the text spells.
+#[inline(never)]
+fn read_long_int(text: &str) -> Option<i64>
+    ensures { result ≡ int_of (number_of (chars text.now)) }
+{
+    match Dec::read_str(text)? {
+        Num::Int(int) => Some(int),
+        Num::Dec(_) => None,
     }
 }
 

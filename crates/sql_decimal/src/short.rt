@@ -1,5 +1,6 @@
 //! The reader of short numbers: at most 18 digits with a sign and a point, straight from the bytes.
 ghost use Rattle.std.specs.Prelude.{◌≡◌, ◌+◌, ◌^◌, ◌<◌, ◌≤◌, length, slice_index, IfSome, Some, true};
+ghost use Rattle.sql_decimal.specs.Decimal.{signed};
 ghost use Rattle.sql_decimal.specs.NumberText.{decimal_point, whole_number};
 ghost use Rattle.sql_decimal.specs.Reading.{number_of, whole_digits, in_whole};
 ghost use Rattle.sql_decimal.specs.ReadingBytes.{chars_from, ReadsSpaces, ReadsDigits, EndsBefore};
@@ -64,6 +65,16 @@ fn read_digits(bytes: &[u8], from: usize, value: u64) -> Option<Digits>
         end += 1;
     }
     Some(Digits { value: all, end })
+}
+
+/// `value` with a sign.
+#[inline(always)]
+fn with_sign(negative: bool, value: u64) -> i64
+    requires { value < 10 ^ 18 }
+    ensures { result ≡ signed negative value }
+{
+    let value = value as i64;
+    if negative { -value } else { value }
 }
 
 /// The Int of a sign and digits of the value `value`.
@@ -131,4 +142,37 @@ pub(crate) fn short(bytes: &[u8]) -> Option<Num>
         return unsigned(bytes, false, start + 1);
     }
     unsigned(bytes, false, start)
+}
+
+/// The Int whose first digit stands at `from`.
+#[inline(always)]
+fn unsigned_int(bytes: &[u8], negative: bool, from: usize) -> Option<i64>
+    requires { from ≤ length bytes.now }
+    ensures { IfSome result (λ n. whole_digits negative (chars_from bytes.now from) ≡ Some (Num.Int n)) }
+{
+    let whole = read_digits(bytes, from, 0)?;
+    if whole.end == from || !ends(bytes, whole.end) {
+        return None;
+    }
+    Some(with_sign(negative, whole.value))
+}
+
+/// The Int that the bytes spell, where it has at most 18 digits. None tells nothing.
+#[tactic(auto, using(crate::proofs::ReadingBytes::minus_at, crate::proofs::ReadingBytes::plus_at, crate::proofs::ReadingBytes::unsigned_number))]
+#[inline(always)]
+pub(crate) fn short_int(bytes: &[u8]) -> Option<i64>
+    ensures { IfSome result (λ n. number_of (chars_from bytes.now 0) ≡ Some (Num.Int n)) }
+{
+    let start = past_spaces(bytes, 0);
+    if start == bytes.len() {
+        return None;
+    }
+    let first = bytes[start];
+    if first == b'-' {
+        return unsigned_int(bytes, true, start + 1);
+    }
+    if first == b'+' {
+        return unsigned_int(bytes, false, start + 1);
+    }
+    unsigned_int(bytes, false, start)
 }
