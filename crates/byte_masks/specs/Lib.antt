@@ -1,0 +1,4 @@
+pub mod Looks
+pub mod Masks
+pub mod Sights
+pub mod Walks

@@ -1,0 +1,11 @@
+//! Tells which bytes of a slice pass a test, 64 at a time: a mask with a bit for each byte, and a walk over the places of one byte.
+#![tactic(auto)]
+
+mod bits;
+mod lanes;
+mod places;
+mod sight;
+
+pub use crate::bits::take_lowest;
+pub use crate::places::Places;
+pub use crate::sight::{Sight, see, see_block};
