@@ -1,4 +1,5 @@
 pub mod Adding
+pub mod Growing
 pub mod Joining
 pub mod Looking
 pub mod Marking

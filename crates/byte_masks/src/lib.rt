@@ -3,9 +3,11 @@
 
 mod bits;
 mod lanes;
+mod laws;
 mod places;
 mod sight;
 
 pub use crate::bits::take_lowest;
+pub use crate::laws::added_bytes_keep;
 pub use crate::places::Places;
 pub use crate::sight::{Sight, see, see_block};

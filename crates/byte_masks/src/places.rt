@@ -127,10 +127,20 @@ fn next_block(bytes: &[u8], from: usize, byte: u8) -> Block
         }
         i += 64;
     }
-    let (_, tail) = bytes.split_at(i);
+    last_block(bytes, i, byte)
+}
+
+/// The bytes behind the last whole block, as a block.
+#[inline(never)]
+fn last_block(bytes: &[u8], from: usize, byte: u8) -> Block
+    requires within { from ≤ length bytes.now }
+    requires near { length bytes.now ≤ from + 64 }
+    ensures { Looked byte bytes.now from result }
+{
+    let (_, tail) = bytes.split_at(from);
     let mask = see(tail, byte, byte).fields;
     Block {
-        base: i,
+        base: from,
         mask,
         end: bytes.len(),
     }

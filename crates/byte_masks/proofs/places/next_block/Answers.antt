@@ -1,5 +1,5 @@
 use Rattle.std.proofs.Common.{◌∙◌, arith}
-use Rattle.byte_masks.proofs.Looking.{Looked-past, Looked-block, Looked-nothing, Looked-tail}
+use Rattle.byte_masks.proofs.Looking.{Looked-past, Looked-block, Looked-nothing, Looked-along}
 use Rattle.byte_masks.proofs.places.next_block.Goals as goal
 
 pub returns-then-bytes-from : goal.returns-then-bytes-from
@@ -18,6 +18,4 @@ loop-i-preserved c = (
 )
 
 pub returns : goal.returns
-returns c =
-    Looked-tail c.args.byte c.args.bytes.now _ c.args.from c.loop-i.i c.see-mask.result.fields (omega arith) (omega arith) (omega arith)
-    c.split_at.ensures.back c.see-mask.ensures.fields c.loop-i.invariant.1
+returns c = Looked-along c.args.byte c.args.bytes.now c.args.from c.loop-i.i c.last_block.result c.loop-i.invariant.0 c.loop-i.invariant.1 c.last_block.ensures
