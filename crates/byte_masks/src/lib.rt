@@ -6,8 +6,10 @@ mod lanes;
 mod laws;
 mod places;
 mod sight;
+mod split;
 
 pub use crate::bits::take_lowest;
 pub use crate::laws::added_bytes_keep;
 pub use crate::places::Places;
 pub use crate::sight::{Sight, see, see_block};
+pub use crate::split::{Span, split_plain};

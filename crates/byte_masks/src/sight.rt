@@ -1,7 +1,8 @@
 //! The masks of a line, or of a block of 64 bytes: where its field bytes, its quote bytes and its bytes from 128 on stand.
-ghost use Rattle.std.specs.Prelude.{◌≡◌, ◌↔◌, ℕ, ◌+◌, ◌*◌, ◌<◌, ◌≤◌, length, take, drop};
+ghost use Rattle.std.specs.Prelude.{◌≡◌, ◌↔◌, ℕ, ◌+◌, ◌*◌, ◌<◌, ◌≤◌, List, length, take, drop, IsTrue};
 ghost use Rattle.byte_masks.specs.Masks.{Marks, is_byte, is_high};
 ghost use Rattle.byte_masks.specs.Sights.{Sees};
+ghost use Rattle.byte_masks.specs.Parts.{IsPlain};
 
 use crate::bits::marked_if;
 use crate::lanes::{equal, high, line_equal, line_high};
@@ -12,6 +13,22 @@ pub struct Sight {
     pub fields: u64,
     pub quotes: u64,
     pub high: u64,
+}
+
+impl Sight {
+    /// Whether the bytes are plain: no quote, and none from 128 on.
+    #[inline(always)]
+    pub fn is_plain(&self) -> bool
+        ensures { (field quote : ℕ) (bytes : List ℕ) → Sees field quote bytes self.now → IsTrue result ↔ IsPlain quote bytes }
+    {
+        if self.quotes != 0 {
+            return false;
+        }
+        if self.high != 0 {
+            return false;
+        }
+        true
+    }
 }
 
 /// The masks of the 64 bytes from place `i` on.
