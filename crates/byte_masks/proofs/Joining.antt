@@ -1,10 +1,10 @@
 -- A mask of a line joined from the masks of its front and its back, which may overlap.
-use Rattle.std.proofs.Common.{Bool, subst, ◌≡◌, ◌↔◌, ℕ, ◌+◌, ◌-◌, ◌*◌, ◌/◌, ◌%◌, ◌^◌, ◌<◌, ◌≤◌, List, length, take, drop, bit_or, sym, ap, ◌∙◌, arith, pow_pos, ⊎_elim, ◌⊎◌, inl, inr}
+use Rattle.std.proofs.Common.{get_or, true, false, ◌||◌, refl, inl, inr, Bool, subst, ◌≡◌, ◌↔◌, ℕ, ◌+◌, ◌-◌, ◌*◌, ◌/◌, ◌%◌, ◌^◌, ◌<◌, ◌≤◌, List, length, take, drop, bit_or, sym, ap, ◌∙◌, arith, pow_pos, ⊎_elim, ◌⊎◌, inl, inr}
 use Rattle.std.proofs.lemmas.Bool.{cases_lt}
 use Rattle.std.proofs.lemmas.List.{get_or-take, get_or-drop, length-take, length-drop}
 use Rattle.std.proofs.lemmas.Nat.Bits.{bit_at-lt, bit_at-zero, bit_at_or, bit_at_above, bit_at_cat_low, bit_at_cat_high}
 use Rattle.std.specs.Int.{bit_at}
-use Rattle.byte_masks.specs.Masks.{Marks, Passes}
+use Rattle.byte_masks.specs.Masks.{Marks, Passes, is_byte, is_either}
 use Rattle.byte_masks.proofs.SetBits.{bit_cases}
 
 -- `m << by` at 64 bits
@@ -88,3 +88,20 @@ Marks-join test line w by a b long near short front back =
                 (cases_lt k w),
           );
     }
+
+or_tells : (a b : Bool) → (a || b ≡ true) ↔ ((a ≡ true) ⊎ (b ≡ true))
+or_tells true b = (λ h. inl refl, λ h. refl)
+or_tells false b = (λ h. inr h, ⊎_elim (λ h. absurd (cc)) (λ h. h))
+
+-- the bits of two masks of the same bytes
+pub Marks-either : (bytes : List ℕ) (x y a b : ℕ) → Marks (is_byte x) bytes a → Marks (is_byte y) bytes b → Marks (is_either x y) bytes (bit_or a b)
+Marks-either bytes x y a b left right = record {
+  each = λ k.
+      let c : ℕ = get_or bytes k 0 in
+      let t = or_tells (is_byte x c) (is_byte y c) in (
+        λ h.
+            ⊎_elim (λ l. let u = (left.each k).0 l in (u.0, t.1 (inl u.1))) (λ r. let u = (right.each k).0 r in (u.0, t.1 (inr u.1)))
+            (either_bit a b k h),
+        λ (l, h). ⊎_elim (λ p. left_bit a b k ((left.each k).1 (l, p))) (λ q. right_bit a b k ((right.each k).1 (l, q))) (t.0 h),
+      );
+}

@@ -1,10 +1,14 @@
 -- Which bytes pass a test: as a mask of up to 64 bits, and as the list of their places.
-use Rattle.std.specs.Prelude.{◌≡◌, ◌↔◌, ℕ, zero, suc, ◌+◌, ◌<◌, ◌==◌, nat_le, Bool, true, if◌then◌else◌, List, [], ◌∷◌, length, slice_index}
+use Rattle.std.specs.Prelude.{◌≡◌, ◌↔◌, ℕ, zero, suc, ◌+◌, ◌<◌, ◌≤◌, ◌==◌, ◌||◌, nat_le, Bool, true, if◌then◌else◌, List, [], ◌∷◌, ◌++◌, length, slice_index}
 use Rattle.std.specs.Int.{bit_at}
 
 -- the test that a byte is a
 abbrev pub is_byte : ℕ → ℕ → Bool
 is_byte a x = x == a
+
+-- the test that a byte is a or b
+abbrev pub is_either : ℕ → ℕ → ℕ → Bool
+is_either a b x = x == a || x == b
 
 -- the test that a byte is no ASCII character
 abbrev pub is_high : ℕ → Bool
@@ -31,3 +35,11 @@ set_places s m k (suc n) = if bit_at m k == 1 then (s + k) ∷ set_places s m (k
 -- the places of all bits that are set in a mask of 64
 abbrev pub marked : ℕ → ℕ → List ℕ
 marked s m = set_places s m 0 64
+
+-- the set bits of a mask of up to 64 bytes are the places of the bytes that pass
+abbrev pub MarksArePlaces : Type 0
+MarksArePlaces = (test : ℕ → Bool) (s m : ℕ) (bytes : List ℕ) → length bytes ≤ 64 → Marks test bytes m → marked s m ≡ places_of test s bytes
+
+-- the places of two lists of bytes, one behind the other
+abbrev pub PlacesAppend : Type 0
+PlacesAppend = (test : ℕ → Bool) (i : ℕ) (xs ys : List ℕ) → places_of test i (xs ++ ys) ≡ places_of test i xs ++ places_of test (i + length xs) ys

@@ -11,7 +11,7 @@ pub fn take_lowest(mask: &mut u64) -> usize
 {
     let before = *mask;
     let bit = before.trailing_zeros() as usize;
-    *mask = before & !(1 << bit);
+    *mask = before & (before - 1);
     bit
 }
 

@@ -7,9 +7,11 @@ mod laws;
 mod places;
 mod sight;
 mod split;
+#[cfg(test)]
+mod tests;
 
 pub use crate::bits::take_lowest;
-pub use crate::laws::added_bytes_keep;
+pub use crate::laws::{added_bytes_keep, marks_are_places};
 pub use crate::places::Places;
 pub use crate::sight::{Sight, see, see_block};
 pub use crate::split::{Span, split_plain};

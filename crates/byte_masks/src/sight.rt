@@ -1,6 +1,6 @@
 //! The masks of a line, or of a block of 64 bytes: where its field bytes, its quote bytes and its bytes from 128 on stand.
 ghost use Rattle.std.specs.Prelude.{◌≡◌, ◌↔◌, ℕ, ◌+◌, ◌*◌, ◌<◌, ◌≤◌, List, length, take, drop, IsTrue};
-ghost use Rattle.byte_masks.specs.Masks.{Marks, is_byte, is_high};
+ghost use Rattle.byte_masks.specs.Masks.{Marks, is_either};
 ghost use Rattle.byte_masks.specs.Sights.{Sees};
 ghost use Rattle.byte_masks.specs.Parts.{IsPlain};
 
@@ -16,6 +16,14 @@ pub struct Sight {
 }
 
 impl Sight {
+    /// The mask of the field bytes and the quote bytes.
+    #[inline(always)]
+    pub fn fields_and_quotes(&self) -> u64
+        ensures { (field quote : ℕ) (bytes : List ℕ) → Sees field quote bytes self.now → Marks (is_either field quote) bytes result }
+    {
+        self.fields | self.quotes
+    }
+
     /// Whether the bytes are plain: no quote, and none from 128 on.
     #[inline(always)]
     pub fn is_plain(&self) -> bool
