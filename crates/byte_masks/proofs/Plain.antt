@@ -1,7 +1,7 @@
 -- Plain bytes, and the masks that tell them.
 use Rattle.std.proofs.Common.{◌≡◌, ◌↔◌, ℕ, ◌+◌, ◌-◌, ◌<◌, Bool, true, false, IsTrue, List, [], ◌++◌, length, take, drop, get_or, refl, sym, ap, ◌∙◌, arith, ⊎_elim, length-append, min}
 use Rattle.std.specs.Int.{bit_at}
-use Rattle.std.proofs.lemmas.Bool.{cases_lt, leb-true, leb-false}
+use Rattle.std.proofs.lemmas.Bool.{cases_lt, leb-true, leb-false, eqb-false, ne_eqb}
 use Rattle.std.proofs.lemmas.List.{get_or_past, get_or-take, get_or-drop, get_or-append_right, get_or_append_left, length-take, length-drop}
 use Rattle.std.proofs.lemmas.Nat.Bits.{bit_at-zero, same_from_bits}
 use Rattle.std.proofs.lemmas.Str.{IsAscii-append, IsAscii-take, IsAscii-drop}
@@ -33,11 +33,11 @@ IsPlain-unmarked quote bytes quotes high marks tops none low = record {
   ascii = λ k.
       ⊎_elim (λ l. low_of_high (get_or bytes k 0) (Marks-none is_high bytes high tops low k l))
       (λ past. omega (arith, get_or_past bytes k 0 past)) (cases_lt k (length bytes));
-  unquoted = λ k _ l. Marks-none (is_byte quote) bytes quotes marks none k l;
+  unquoted = λ k _ l. eqb-false (get_or bytes k 0) quote (Marks-none (is_byte quote) bytes quotes marks none k l);
 }
 
 pub quotes_of_plain : (quote : ℕ) (bytes : List ℕ) (m : ℕ) → Marks (is_byte quote) bytes m → IsPlain quote bytes → m ≡ 0
-quotes_of_plain quote bytes m marks plain = Marks-nothing (is_byte quote) bytes m marks (λ k l. plain.unquoted k (omega arith) l)
+quotes_of_plain quote bytes m marks plain = Marks-nothing (is_byte quote) bytes m marks (λ k l. ne_eqb (get_or bytes k 0) quote (plain.unquoted k (omega arith) l))
 
 pub high_of_plain : (quote : ℕ) (bytes : List ℕ) (m : ℕ) → Marks is_high bytes m → IsPlain quote bytes → m ≡ 0
 high_of_plain quote bytes m marks plain = Marks-nothing is_high bytes m marks (λ k l. high_of_low (get_or bytes k 0) (plain.ascii k))
@@ -47,26 +47,24 @@ IsPlain-append quote xs ys p q = record {
   ascii = IsAscii-append xs ys p.ascii q.ascii;
   unquoted = λ k low high.
       ⊎_elim
-      (λ l. ap (is_byte quote) (get_or_append_left xs ys 0 k l) ∙ p.unquoted k low l)
-      (λ ge.
-      ap (is_byte quote) (get_or-append_right xs ys (length xs) k 0 refl ge)
-      ∙ q.unquoted (k - length xs) (omega arith) (omega (arith, length-append xs ys)))
+      (λ l e. p.unquoted k low l (sym (get_or_append_left xs ys 0 k l) ∙ e))
+      (λ ge e.
+      q.unquoted (k - length xs) (omega arith) (omega (arith, length-append xs ys)) (sym (get_or-append_right xs ys (length xs) k 0 refl ge) ∙ e))
       (cases_lt k (length xs));
 }
 
 pub IsPlain-part : (quote : ℕ) (line : List ℕ) (i n : ℕ) → IsPlain quote line → IsPlain quote (take n (drop i line))
 IsPlain-part quote line i n plain = record {
   ascii = IsAscii-take (drop i line) n (IsAscii-drop line i plain.ascii);
-  unquoted = λ k low high.
+  unquoted = λ k low high e.
       let long : length (take n (drop i line)) ≡ min n (length line - i) = length-take n (drop i line) ∙ ap (min n) (length-drop i line) in
-      ap (is_byte quote) (get_or-take n (drop i line) k 0 (omega arith) ∙ get_or-drop i line k 0)
-      ∙ plain.unquoted (i + k) (omega arith) (omega arith);
+      plain.unquoted (i + k) (omega arith) (omega arith) (sym (get_or-take n (drop i line) k 0 (omega arith) ∙ get_or-drop i line k 0) ∙ e);
 }
 
 pub IsPlain-rest : (quote : ℕ) (line : List ℕ) (i : ℕ) → IsPlain quote line → IsPlain quote (drop i line)
 IsPlain-rest quote line i plain = record {
   ascii = IsAscii-drop line i plain.ascii;
-  unquoted = λ k low high. ap (is_byte quote) (get_or-drop i line k 0) ∙ plain.unquoted (i + k) (omega arith) (omega (arith, length-drop i line));
+  unquoted = λ k low high e. plain.unquoted (i + k) (omega arith) (omega (arith, length-drop i line)) (sym (get_or-drop i line k 0) ∙ e);
 }
 
 pub IsPlain-empty : (quote : ℕ) → IsPlain quote []

@@ -1,5 +1,6 @@
 -- The places of a byte from some place on, a block at a time, and the first of them.
 use Rattle.std.proofs.Common.{◌≡◌, ℕ, zero, suc, Option, None, Some, ◌+◌, ◌-◌, ◌<◌, ◌≤◌, Bool, false, List, [], ◌∷◌, ◌++◌, length, take, drop, get_or, sym, ap, ◌∙◌, arith, ⊎_elim}
+use Rattle.std.proofs.lemmas.Bool.{eqb-true, eqb-false}
 use Rattle.std.proofs.lemmas.List.{append-nil, drop-drop, get_or-drop, length-drop}
 use Rattle.std.proofs.lemmas.Simd.{chunk-drop, length-chunk}
 use Rattle.std.proofs.Math.ListN.{drop_of_length-le}
@@ -94,10 +95,10 @@ places_from-first byte bytes at p rest e =
       record {
         low = omega arith;
         high = omega (arith, f.within, length-drop at bytes);
-        here = ap (λ k. test (get_or bytes k 0)) put ∙ sym (seen f.far) ∙ f.here;
+        here = eqb-true (get_or bytes p 0) byte (ap (λ k. test (get_or bytes k 0)) put ∙ sym (seen f.far) ∙ f.here);
         before = λ k low high.
             let e : at + (k - at) ≡ k = omega arith in
-            ap (λ j. test (get_or bytes j 0)) (sym e) ∙ sym (seen (k - at)) ∙ f.before (k - at) (omega arith);
+            eqb-false (get_or bytes k 0) byte (ap (λ j. test (get_or bytes j 0)) (sym e) ∙ sym (seen (k - at)) ∙ f.before (k - at) (omega arith));
       },
       f.behind ∙ ap (places_of test (p + 1)) (drop-drop (suc f.far) at bytes ∙ ap (λ n. drop n bytes) next),
     )
@@ -105,9 +106,10 @@ places_from-first byte bytes at p rest e =
 places_from-none : (byte : ℕ) (bytes : List ℕ) (at : ℕ) → places_from byte bytes at ≡ [] → HasNone byte bytes at (length bytes)
 places_from-none byte bytes at none k low high =
     let e : at + (k - at) ≡ k = omega arith in
-    ap (λ j. is_byte byte (get_or bytes j 0)) (sym e)
+    eqb-false (get_or bytes k 0) byte
+    (ap (λ j. is_byte byte (get_or bytes j 0)) (sym e)
     ∙ sym (ap (is_byte byte) (get_or-drop at bytes (k - at) 0))
-    ∙ places_of-none (is_byte byte) at (drop at bytes) none (k - at) (omega (arith, length-drop at bytes))
+    ∙ places_of-none (is_byte byte) at (drop at bytes) none (k - at) (omega (arith, length-drop at bytes)))
 
 -- what a walk that stood at a place gave is the first place from there on
 pub GaveFirst-given : (old : Walk) (bytes : List ℕ) (at : ℕ) (r : Option ℕ) (new : Walk) → YieldsFirst (λ walk. left walk bytes) old r new

@@ -1,6 +1,6 @@
 -- A walk over the places of one byte in a slice, from some place on.
-use Rattle.std.specs.Prelude.{◌≡◌, ℕ, ◌+◌, ◌<◌, ◌≤◌, List, ◌++◌, Option, MatchOption, length, drop, false, slice_index}
-use Rattle.byte_masks.specs.Masks.{is_byte, places_of, Passes}
+use Rattle.std.specs.Prelude.{◌≡◌, ◌≢◌, ℕ, ◌+◌, ◌<◌, ◌≤◌, List, ◌++◌, Option, MatchOption, length, drop, slice_index}
+use Rattle.byte_masks.specs.Masks.{is_byte, places_of}
 
 -- the byte that is walked, the places that were found and not yet given, and the place of the first byte that was not looked at
 pub record Walk : Type 0 where
@@ -24,13 +24,13 @@ pub record StandsAt (walk : Walk) (bytes : List ℕ) (at : ℕ) : Type 0 where
 
 -- no place from `at` up to `end` has the byte
 abbrev pub HasNone : ℕ → List ℕ → ℕ → ℕ → Type 0
-HasNone byte bytes at end = (k : ℕ) → at ≤ k → k < end → is_byte byte (slice_index bytes k) ≡ false
+HasNone byte bytes at end = (k : ℕ) → at ≤ k → k < end → slice_index bytes k ≢ byte
 
 -- p is the first place of the byte from place `at` on
 pub record IsFirst (byte : ℕ) (bytes : List ℕ) (at p : ℕ) : Type 0 where
   pub low : at ≤ p
   pub high : p < length bytes
-  pub here : Passes (is_byte byte) bytes p
+  pub here : slice_index bytes p ≡ byte
   pub before : HasNone byte bytes at p
 
 -- a walk that stood at place `at` gave the first place from there on and stands behind it, or there is none

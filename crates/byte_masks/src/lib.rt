@@ -1,4 +1,5 @@
-//! Tells which bytes of a slice pass a test, 64 at a time: a mask with a bit for each byte, and a walk over the places of one byte.
+//! Tells which bytes of a slice pass a test, 64 at a time: a mask with a bit for each byte, a walk over the places of one byte,
+//! and the parts of a plain line.
 #![tactic(auto)]
 
 mod bits;
