@@ -3,7 +3,7 @@ use Rattle.std.proofs.Common.{◌≡◌, ◌≢◌, ◌↔◌, ℕ, ◌+◌, ◌
 use Rattle.std.proofs.lemmas.Bool.{cases_lt}
 use Rattle.std.proofs.Math.ListN.{get_or-append}
 use Rattle.std.proofs.Math.Seq.{get_or-append_seam}
-use Rattle.std.proofs.lemmas.Nat.Bits.{bit_at-zero, bit_at_set_same, bit_at_set_other}
+use Rattle.std.proofs.lemmas.Nat.Bits.{bit_at_set_same, bit_at_set_other}
 use Rattle.std.specs.Int.{bit_at}
 use Rattle.byte_masks.specs.Masks.{Marks}
 
@@ -46,6 +46,3 @@ pub Marks-no : (test : ℕ → Bool) (bytes : List ℕ) (b n m : ℕ) → length
 Marks-no test bytes b n m long fails marks =
     Marks-one_more test bytes b n m m long marks (λ k apart. refl)
     (λ h. absurd (omega (arith, ((marks.each n).0 h).0)), λ h. absurd (cc))
-
-pub Marks-empty : (test : ℕ → Bool) → Marks test [] 0
-Marks-empty test = record { each = λ k. (λ h. absurd (omega (arith, bit_at-zero k)), λ h. absurd (omega (arith, h.0))) }

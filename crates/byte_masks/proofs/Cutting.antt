@@ -13,7 +13,7 @@ use Rattle.byte_masks.specs.declared.split.Span.{Span}
 use Rattle.byte_masks.specs.declared.split.Cut.{Cut}
 use Rattle.byte_masks.proofs.SetBits.{bit_cases, set_places-yes, set_places-no, set_places-nil}
 use Rattle.byte_masks.proofs.Walking.{places_from-block, places_from-tail, places_from-past}
-use Rattle.byte_masks.proofs.Plain.{IsPlain-empty, IsPlain-append}
+use Rattle.byte_masks.proofs.Plain.{IsPlain-append}
 use Rattle.byte_masks.proofs.Marking.{places_of-nil, places_of-yes, places_of-no, test_cases}
 
 spans_between-nil : (start end : ℕ) → spans_between start [] end ≡ (record { start = start; end = end }) ∷ []
@@ -165,14 +165,6 @@ pub record Splitting (field quote : ℕ) (line : List ℕ) (i : ℕ) (cut : Cut)
   pub plain : IsPlain quote (take i line)
   pub all : take cut.count spans ++ spans_between cut.start (places_from field line i) (length line) ≡ spans_of field line
   pub room : cut.count ≤ length spans
-
-pub Splitting-start : (field quote : ℕ) (line : List ℕ) (spans : List Span) → Splitting field quote line 0 (record { start = 0; count = 0 }) spans
-Splitting-start field quote line spans = record {
-  within = omega arith;
-  plain = IsPlain-empty quote;
-  all = refl;
-  room = omega arith;
-}
 
 pub Splitting-block : (field quote : ℕ) (line : List ℕ) (i m : ℕ) (cut cut' : Cut) (spans spans' : List Span) → i + 64 ≤ length line → length spans ≤ length spans'
     → cut.count + 64 < length spans → Marks (is_byte field) (take 64 (drop i line)) m → IsPlain quote (take 64 (drop i line))

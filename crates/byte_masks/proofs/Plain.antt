@@ -1,11 +1,10 @@
 -- Plain bytes, and the masks that tell them.
-use Rattle.std.proofs.Common.{◌≡◌, ◌↔◌, ℕ, ◌+◌, ◌-◌, ◌<◌, Bool, true, false, IsTrue, List, [], ◌++◌, length, take, drop, get_or, refl, sym, ap, ◌∙◌, arith, ⊎_elim, length-append, min}
+use Rattle.std.proofs.Common.{◌≡◌, ◌↔◌, ℕ, ◌+◌, ◌-◌, ◌<◌, Bool, true, false, IsTrue, List, ◌++◌, length, take, drop, get_or, refl, sym, ap, ◌∙◌, arith, ⊎_elim, length-append, min}
 use Rattle.std.specs.Int.{bit_at}
 use Rattle.std.proofs.lemmas.Bool.{cases_lt, leb-true, leb-false, eqb-false, ne_eqb}
 use Rattle.std.proofs.lemmas.List.{get_or_past, get_or-take, get_or-drop, get_or-append_right, get_or_append_left, length-take, length-drop}
 use Rattle.std.proofs.lemmas.Nat.Bits.{bit_at-zero, same_from_bits}
 use Rattle.std.proofs.lemmas.Str.{IsAscii-append, IsAscii-take, IsAscii-drop}
-use Rattle.std.proofs.lemmas.Str.Ascii.{IsAscii-nil}
 use Rattle.byte_masks.specs.Masks.{Marks, is_byte, is_high}
 use Rattle.byte_masks.specs.Parts.{IsPlain}
 use Rattle.byte_masks.proofs.SetBits.{bit_cases}
@@ -66,9 +65,6 @@ IsPlain-rest quote line i plain = record {
   ascii = IsAscii-drop line i plain.ascii;
   unquoted = λ k low high e. plain.unquoted (i + k) (omega arith) (omega (arith, length-drop i line)) (sym (get_or-drop i line k 0) ∙ e);
 }
-
-pub IsPlain-empty : (quote : ℕ) → IsPlain quote []
-IsPlain-empty quote = record { ascii = IsAscii-nil; unquoted = λ k low high. absurd (omega arith) }
 
 -- a part that isn't plain stands in no plain line
 pub not_plain : (quote : ℕ) (part : List ℕ) (r : Bool) → r ≡ false → IsTrue r ↔ IsPlain quote part → IsPlain quote part → ⊥
