@@ -1,0 +1,9 @@
+pub mod Adding
+pub mod Cutting
+pub mod Growing
+pub mod Joining
+pub mod Looking
+pub mod Marking
+pub mod Plain
+pub mod SetBits
+pub mod Walking
