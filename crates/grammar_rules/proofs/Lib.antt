@@ -6,6 +6,8 @@ pub mod Choices
 pub mod Clear
 pub mod ClosedRules
 pub mod Completions
+pub mod CountedMany
+pub mod Counts
 pub mod Depths
 pub mod ExpressionAnswers
 pub mod ExpressionFronts

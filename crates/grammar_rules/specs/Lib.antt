@@ -1,3 +1,5 @@
+pub mod Counted
+pub mod CountedReaders
 pub mod ExpressionReaders
 pub mod Expressions
 pub mod KeyedNumbers

@@ -78,6 +78,23 @@ read_either test read other ts = chosen (starts test ts) (read ts) (other ts)
 abbrev pub read_optional : {T K A : Type 0} → (T → Bool) → (List T → Outcome T K A) → List T → Outcome T K (Option A)
 read_optional test read ts = chosen (starts test ts) (read_made Some (read ts)) (found None ts)
 
+-- the outcome behind a terminal, whose value tells what follows
+abbrev pub read_begun : {T K A B : Type 0} → (T → Verdict K A) → (A → List T → Outcome T K B) → List T → Outcome T K B
+read_begun look next ts = and_then (read_terminal look ts) next
+
+-- the outcome where there is room, else that of the terminal `past`
+abbrev pub read_where_room : {T K A : Type 0} → Bool → (List T → Outcome T K A) → (T → Verdict K A) → List T → Outcome T K A
+read_where_room room read past ts = chosen room (read ts) (read_terminal past ts)
+
+-- the second outcome, unless the first one found a value
+abbrev pub unless_found : {T K A : Type 0} → Outcome T K A → Outcome T K A → Outcome T K A
+unless_found (found a left) o = found a left
+unless_found (failed e left) o = o
+
+-- the outcome of an alternative of two, of which the second is tried ahead
+abbrev pub read_ahead : {T K A : Type 0} → (List T → Outcome T K A) → (List T → Outcome T K A) → List T → Outcome T K A
+read_ahead read ahead ts = unless_found (ahead ts) (read ts)
+
 -- up to n times, while a symbol passes the test
 abbrev pub read_bounded : {T K A : Type 0} → ℕ → (T → Bool) → (List T → Outcome T K A) → (List T → Outcome T K (List A)) → List T → Outcome T K (List A)
 read_bounded zero test read end ts = end ts

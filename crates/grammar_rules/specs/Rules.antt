@@ -109,6 +109,21 @@ either G H = alternatives (one_of_two G H)
 abbrev pub optional : {T K A : Type 0} → Rule T K A → Rule T K (Option A)
 optional G = either (made Some G) (nothing None)
 
+-- a choice that begins with a terminal, whose value tells what follows
+abbrev pub begun : {T K A B : Type 0} → (T → Verdict K A) → (A → Rule T K B) → Rule T K B
+begun look H = sequence (terminal look) H
+
+-- a symbol that is taken has this fault where there is no room for it; a fault that it has goes before
+abbrev pub limited : {K A : Type 0} → K → Bool → Verdict K A → Verdict K A
+limited k true v = v
+limited k false (takes a) = faults k
+limited k false (faults j) = faults j
+limited k false refuses = refuses
+
+-- the rule where there is room for it, else what the verdict `past` says of the symbol that would begin it
+abbrev pub where_room : {T K A : Type 0} → Bool → Rule T K A → (T → Verdict K A) → Rule T K A
+where_room room G past = one_of_two G (terminal past) room
+
 -- one after the other, for the list of the first one's value and the second one's
 abbrev pub headed : {T K A : Type 0} → Rule T K A → Rule T K (List A) → Rule T K (List A)
 headed G H = sequence G (λ a. made (λ rest. a ∷ rest) H)
