@@ -1,11 +1,11 @@
 -- A repetition that hands a count on, and the steps of a loop that reads it.
 use Rattle.std.proofs.Common.{◌≡◌, ℕ, zero, suc, ◌+◌, ◌<◌, ◌||◌, ◌&&◌, Bool, true, false, List, [], ◌∷◌, ◌++◌, length, Option, refl, ap, subst, inl, inr, append_assoc, append-nil, arith}
-use Rattle.grammar_rules.specs.Rules.{Rule, Last, nothing, made, sequence, either, one_of_two}
+use Rattle.grammar_rules.specs.Rules.{Rule, Last, nothing, made, sequence, either, one_of_two, Within}
 use Rattle.grammar_rules.specs.Readers.{Outcome, found, failed, and_then, read_made, starts, chosen}
 use Rattle.grammar_rules.specs.Counted.{Counted, given, both, joined_to, bounded_from, many_from, chain}
 use Rattle.grammar_rules.specs.CountedReaders.{CountedReader, read_both, read_bounded_from, read_many_from, read_chain, read_links}
 use Rattle.grammar_rules.proofs.Clear.{Sight, Clear}
-use Rattle.grammar_rules.proofs.Alternatives.{cons_not_nil, Within, Within_refl, clear-growing}
+use Rattle.grammar_rules.proofs.Alternatives.{cons_not_nil, Within_refl, clear-growing}
 use Rattle.grammar_rules.proofs.Sequences.{Apart, sequence_sight, clear-sequence}
 use Rattle.grammar_rules.proofs.Terminals.{nothing_sight, clear-nothing, clear-made, clear-wider}
 use Rattle.grammar_rules.proofs.Right.{Right, right-nothing, right-made, right-sequence}

@@ -3,12 +3,12 @@ use Rattle.std.proofs.Common.{ℕ, zero, suc, ◌+◌, List, [], ◌∷◌, suc-
 use Rattle.grammar_rules.specs.declared.arithmetic.Token.{Token}
 use Rattle.grammar_rules.specs.declared.arithmetic.Expression.{Expression}
 use Rattle.grammar_rules.specs.declared.arithmetic.Expression.TheVariants.{Sum, Call}
-use Rattle.grammar_rules.specs.Rules.{Rule, Last, fits, faulty, terminal, token, never, made, either, headed, many, preceded_by, followed_by, ◌&◌, Limits}
+use Rattle.grammar_rules.specs.Rules.{Rule, Last, fits, faulty, terminal, token, never, made, either, headed, many, preceded_by, followed_by, ◌&◌, Limits, Within}
 use Rattle.grammar_rules.specs.Places.{RefusedThere}
 use Rattle.grammar_rules.specs.Expressions.{Limit, too_deep, is_plus, is_comma, is_open, is_close, number, name, Brackets, call, term, sum, enclosed, list, brackets, some_brackets, expression, any_expression}
 use Rattle.grammar_rules.proofs.Clear.{Closed}
 use Rattle.grammar_rules.proofs.ClosedRules.{closed-pair, closed-headed, closed-token, closed-preceded_by, closed-followed_by, closed-many, preceded_starts, preceded_wants, preceded_no_fault}
-use Rattle.grammar_rules.proofs.Alternatives.{Within, Within_refl}
+use Rattle.grammar_rules.proofs.Alternatives.{Within_refl}
 use Rattle.grammar_rules.proofs.Terminals.{closed-terminal, closed-made}
 use Rattle.grammar_rules.proofs.Choices.{closed-either}
 use Rattle.grammar_rules.proofs.Depths.{within-made, within-pair, within-either, within-headed, within-many, within-preceded_by, within-followed_by}

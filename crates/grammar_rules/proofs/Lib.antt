@@ -2,7 +2,9 @@ pub mod Alternatives
 pub mod Answering
 pub mod AnyOrder
 pub mod AtMost
+pub mod Begun
 pub mod Choices
+pub mod Classes
 pub mod Clear
 pub mod ClosedRules
 pub mod Completions
@@ -14,6 +16,7 @@ pub mod ExpressionFronts
 pub mod ExpressionLimits
 pub mod ExpressionProofs
 pub mod ExpressionSteps
+pub mod Factoring
 pub mod Families
 pub mod Fronts
 pub mod KeyedProofs
@@ -26,5 +29,6 @@ pub mod OneAnswer
 pub mod Reading
 pub mod Repetitions
 pub mod Right
+pub mod Same
 pub mod Sequences
 pub mod Terminals

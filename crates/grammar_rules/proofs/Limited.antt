@@ -1,8 +1,8 @@
 -- Rules with limits, part by part, and what their answers say of the rules without.
 use Rattle.std.proofs.Common.{◌≡◌, ℕ, zero, suc, ◌+◌, ◌⊎◌, Bool, true, false, List, [], ◌∷◌, ◌++◌, Some, None, refl, sym, ap, ◌∙◌, inl, inr, append_assoc, if◌then◌else◌}
-use Rattle.grammar_rules.specs.Rules.{Rule, Last, fits, faulty, takes, faults, refuses, nothing, made, sequence, alternatives, either, one_of_two, optional, headed, ◌&◌, bounded, many, fault, MeetsFault, Limits}
+use Rattle.grammar_rules.specs.Rules.{Rule, Last, fits, faulty, takes, faults, refuses, nothing, made, sequence, alternatives, either, one_of_two, optional, headed, ◌&◌, bounded, many, fault, MeetsFault, Limits, Within}
 use Rattle.grammar_rules.proofs.Clear.{Closed}
-use Rattle.grammar_rules.proofs.Alternatives.{Within, to_sum_right}
+use Rattle.grammar_rules.proofs.Alternatives.{to_sum_right}
 
 pub limits_refl : {T K A : Type 0} (G : Rule T K A) → Limits G G
 limits_refl G = record { spells = λ a ts w. w; front = λ ts f. f; spelled = λ a ts w. inl w; fronted = λ m ts f. inl f }

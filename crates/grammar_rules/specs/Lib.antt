@@ -2,6 +2,7 @@ pub mod Counted
 pub mod CountedReaders
 pub mod ExpressionReaders
 pub mod Expressions
+pub mod Factored
 pub mod KeyedNumbers
 pub mod Parsing
 pub mod Places

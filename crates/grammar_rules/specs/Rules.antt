@@ -166,6 +166,16 @@ some_members same G (suc n) free =
 abbrev pub members : {T K A I : Type 0} → (I → I → Bool) → (I → Rule T K A) → (I → Bool) → Rule T K (List (I × A))
 members same G free = alternatives (λ n. some_members same G n free)
 
+-- the second rule says all that the first one says
+pub record Within {T K A : Type 0} (G H : Rule T K A) : Type 0 where
+  pub spells : (a : A) (ts : List T) → G.Spells a ts → H.Spells a ts
+  pub front : (last : Last K) (ts : List T) → G.Front last ts → H.Front last ts
+
+-- two rules say the same
+pub record Same {T K A : Type 0} (G H : Rule T K A) : Type 0 where
+  pub there : Within G H
+  pub back : Within H G
+
 -- the first rule's texts are texts of the second, and each of its fronts begins a text of the second:
 -- where a rule completes itself, a front is exactly what begins a text
 pub record Completes {T K A : Type 0} (G H : Rule T K A) : Type 0 where

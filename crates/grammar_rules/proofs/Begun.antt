@@ -1,0 +1,48 @@
+-- A choice that begins with one symbol, whose value tells what follows, is read.
+use Rattle.std.proofs.Common.{◌≡◌, ◌||◌, ◌&&◌, Bool, true, false, List, refl, inl}
+use Rattle.grammar_rules.specs.Rules.{Rule, Verdict, terminal, sequence, begun}
+use Rattle.grammar_rules.specs.Readers.{Outcome, and_then, read_terminal, is_seen, read_begun}
+use Rattle.grammar_rules.specs.Counted.{Counted, after}
+use Rattle.grammar_rules.specs.CountedReaders.{CountedReader, read_after}
+use Rattle.grammar_rules.proofs.Clear.{Sight, Clear}
+use Rattle.grammar_rules.proofs.Sequences.{sequence_sight, clear-sequence}
+use Rattle.grammar_rules.proofs.Terminals.{clear-wider}
+use Rattle.grammar_rules.proofs.Right.{right-sequence}
+use Rattle.grammar_rules.proofs.Reading.{Reads, token_sight}
+use Rattle.grammar_rules.proofs.Counts.{CountedReads, reads_look}
+
+-- the lookahead of a choice that begins with such a symbol and may go on so
+abbrev pub begun_sight : {T : Type 0} → (T → Bool) → (T → Bool) → Sight T
+begun_sight first more = record { first = first; null = false; more = more }
+
+or_false : (b : Bool) → (b || false) ≡ true → b ≡ true
+or_false true e = refl
+or_false false e = e
+
+-- G takes one symbol. Each value has its own rule, with a lookahead of its own
+module _ {T K A B : Type 0} (G : Rule T K A) (H : A → Rule T K B) (first : T → Bool) (each : A → Sight T) (read : List T → Outcome T K A) (next : A → List T → Outcome T K B) (g : Reads G (token_sight first) read) (h : (a : A) → Reads (H a) (each a) (next a)) (more : T → Bool) (wide : (a : A) (x : T) → (each a).more x ≡ true → more x ≡ true) where
+  abbrev rest_sight : Sight T
+  rest_sight = record { first = λ x. true; null = true; more = more }
+
+  clear_rest : (a : A) → Clear (H a) rest_sight
+  clear_rest a = clear-wider (H a) (each a) rest_sight (record { first = λ x e. refl; null = λ e. refl; more = wide a }) (h a).clear
+
+  pub reads_behind_one : Reads (sequence G H) (begun_sight first more) (λ ts. and_then (read ts) next)
+  reads_behind_one = record {
+    clear =
+        clear-wider (sequence G H) (sequence_sight (token_sight first) rest_sight) (begun_sight first more)
+        (record { first = λ x e. or_false (first x) e; null = λ e. e; more = λ x e. or_false (more x) e })
+        (clear-sequence G H (token_sight first) rest_sight g.clear clear_rest (λ x. refl));
+    exact = λ t e. let f = g.exact t e in (f.0, inl f.1);
+    empty = λ e. cc;
+    right = λ ts. right-sequence G H (token_sight first) rest_sight g.clear clear_rest (λ x. refl) ts (read ts) (g.right ts) next (λ a left. (h a).right left);
+  }
+
+pub reads-begun : {T K A B : Type 0} (look : T → Verdict K A) (H : A → Rule T K B) (each : A → Sight T) (next : A → List T → Outcome T K B) (first : T → Bool) → ((t : T) → is_seen (look t) ≡ first t) → ((a : A) → Reads (H a) (each a) (next a)) → (more : T → Bool) → ((a : A) (x : T) → (each a).more x ≡ true → more x ≡ true) → Reads (begun look H) (begun_sight first more) (read_begun look next)
+reads-begun look H each next first seen h more wide =
+    reads_behind_one (terminal look) H first each (read_terminal look) next (reads_look look first seen) h more wide
+
+-- the same with a count
+pub reads-counted_begun : {S T K A B : Type 0} (G : Counted S T K A) (H : A → Counted S T K B) (each : A → Sight T) (read : CountedReader S T K A) (next : A → CountedReader S T K B) (first : T → Bool) → CountedReads G (token_sight first) read → ((a : A) → CountedReads (H a) (each a) (next a)) → (more : T → Bool) → ((a : A) (x : T) → (each a).more x ≡ true → more x ≡ true) → CountedReads (after G H) (begun_sight first more) (read_after read next)
+reads-counted_begun G H each read next first g h more wide n =
+    reads_behind_one (G n) (λ p. H p.0 p.1) first (λ p. each p.0) (read n) (λ p left. next p.0 p.1 left) (g n) (λ p. h p.0 p.1) more (λ p x e. wide p.0 x e)
