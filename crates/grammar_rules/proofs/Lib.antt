@@ -1,3 +1,4 @@
+pub mod Ahead
 pub mod Alternatives
 pub mod Answering
 pub mod AnyOrder
@@ -25,6 +26,7 @@ pub mod LimitedAnswers
 pub mod Lists
 pub mod Many
 pub mod Members
+pub mod Merging
 pub mod OneAnswer
 pub mod Reading
 pub mod Repetitions
