@@ -1,21 +1,21 @@
 -- A repetition that hands a count on, and the steps of a loop that reads it.
-use Rattle.std.proofs.Common.{◌≡◌, ℕ, zero, suc, ◌+◌, ◌<◌, ◌||◌, ◌&&◌, Bool, true, false, List, [], ◌∷◌, ◌++◌, length, Option, refl, ap, subst, inl, inr, append_assoc, append-nil, arith}
+use Rattle.std.proofs.Common.{◌≡◌, ℕ, zero, suc, ◌+◌, ◌<◌, ◌||◌, ◌&&◌, Bool, true, false, List, [], ◌∷◌, ◌++◌, length, Option, is_some, refl, ap, subst, inl, inr, append_assoc, append-nil, arith}
 use Rattle.grammar_rules.specs.Rules.{Rule, Last, nothing, made, sequence, either, one_of_two, Within}
 use Rattle.grammar_rules.specs.Readers.{Outcome, found, failed, and_then, read_made, starts, chosen}
-use Rattle.grammar_rules.specs.Counted.{Counted, given, both, joined_to, bounded_from, many_from, chain}
-use Rattle.grammar_rules.specs.CountedReaders.{CountedReader, read_both, read_bounded_from, read_many_from, read_chain, read_links}
+use Rattle.grammar_rules.specs.Counted.{Counted, given, both, past, joined_to, bounded_from, many_from, chain, item, list_of}
+use Rattle.grammar_rules.specs.CountedReaders.{CountedReader, read_both, read_counted_past, read_bounded_from, read_many_from, read_chain, read_links, read_item, read_list_of}
 use Rattle.grammar_rules.proofs.Clear.{Sight, Clear}
 use Rattle.grammar_rules.proofs.Alternatives.{cons_not_nil, Within_refl, clear-growing}
 use Rattle.grammar_rules.proofs.Sequences.{Apart, sequence_sight, clear-sequence}
 use Rattle.grammar_rules.proofs.Terminals.{nothing_sight, clear-nothing, clear-made, clear-wider}
 use Rattle.grammar_rules.proofs.Right.{Right, right-nothing, right-made, right-sequence}
-use Rattle.grammar_rules.proofs.Reading.{Exact, Reads, and_first, reads_as}
+use Rattle.grammar_rules.proofs.Reading.{Exact, Reads, and_first, past_sight, then_sight, reads_then, reads-made}
 use Rattle.grammar_rules.proofs.Choices.{either_sight, clear-either, right-either}
 use Rattle.grammar_rules.proofs.Repetitions.{wide_sight, sees_repeat, headed_first}
 use Rattle.grammar_rules.proofs.Families.{right-growing}
 use Rattle.grammar_rules.proofs.Depths.{within-made, within-sequence, within-member, within-either}
 use Rattle.grammar_rules.proofs.Many.{Shrinks, shrinks, many_sight}
-use Rattle.grammar_rules.proofs.Counts.{CountedReads, reads-given, reads-both}
+use Rattle.grammar_rules.proofs.Counts.{CountedReads, reads-given, reads-both, reads-counted_past, reads-item}
 
 -- one more, and then up to k times
 abbrev one_and : {S T K A : Type 0} → ℕ → Counted S T K A → Counted S T K (List A)
@@ -156,12 +156,26 @@ module _ {S T K A : Type 0} (G : Counted S T K A) (s : Sight T) (read : CountedR
 
 -- ---- chains: what every loop of a reader is
 
+-- the lookahead of a list with separators
+abbrev pub list_sight : {T : Type 0} → Sight T → (T → Bool) → Sight T
+list_sight s separates = then_sight s (many_sight (past_sight separates s))
+
 module _ {S T K A B C : Type 0} (node : A → List B → C) (G : Counted S T K A) (H : Counted S T K B) (s t : Sight T) (first : CountedReader S T K A) (part : CountedReader S T K B) (g : CountedReads G s first) (h : CountedReads H t part) (wants : t.null ≡ false) (loops : (x : T) → (t.more x && t.first x) ≡ false) (off : Apart s (many_sight t)) where
   pub reads-chain : CountedReads (chain node G H) (sequence_sight s (many_sight t)) (read_chain node t.first first part)
   unfolding read_chain
   reads-chain =
       reads-given (λ p. node p.0 p.1) (both G (many_from H)) (sequence_sight s (many_sight t)) (read_both first (read_many_from t.first part))
       (reads-both G (many_from H) s (many_sight t) first (read_many_from t.first part) g (reads-many_from H t part h wants loops) off)
+
+-- a list with separators and a limit
+module _ {S T K A : Type 0} (limit : ℕ) (over : T → Option K) (separates : T → Bool) (G : Counted S T K A) (s : Sight T) (read : CountedReader S T K A) (g : CountedReads G s read) (wants : s.null ≡ false) (seen : (t : T) → is_some (over t) ≡ s.first t) (off : (x : T) → (s.more x && separates x) ≡ false) where
+  pub reads-list_of : CountedReads (list_of limit over separates G) (list_sight s separates) (read_list_of limit over separates read)
+  reads-list_of n =
+      reads-made (λ p. (p.0, p.1.1)) (chain (λ a rest. a ∷ rest) (item over G) (past separates (item over G)) (limit, n)) (list_sight s separates) (read_chain (λ a rest. a ∷ rest) separates (read_item over read) (read_counted_past separates (read_item over read)) (limit, n))
+      (reads_then (chain (λ a rest. a ∷ rest) (item over G) (past separates (item over G)) (limit, n)) s (many_sight (past_sight separates s)) (read_chain (λ a rest. a ∷ rest) separates (read_item over read) (read_counted_past separates (read_item over read)) (limit, n)) wants
+      (reads-chain (λ a rest. a ∷ rest) (item over G) (past separates (item over G)) s (past_sight separates s) (read_item over read) (read_counted_past separates (read_item over read))
+      (reads-item over G s read g wants seen) (reads-counted_past separates (item over G) s (read_item over read) (reads-item over G s read g wants seen))
+      refl off off (limit, n)))
 
 module _ {S T K A B C : Type 0} (node : A → List B → C) (test : T → Bool) (first : CountedReader S T K A) (part : CountedReader S T K B) where
   begun_links : (a : A) (o : Outcome T K (List B × S)) → read_made {B = C × S} (λ p. (node p.0.0 p.0.1, p.1)) (read_made {B = (A × List B) × S} (λ q. ((a, q.0), q.1)) o) ≡ read_made {B = C × S} (λ q. (node a ([] ++ q.0), q.1)) o

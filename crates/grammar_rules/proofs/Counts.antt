@@ -1,13 +1,13 @@
 -- Rules with a count are read: one law a combinator, with one lookahead for all counts.
-use Rattle.std.proofs.Common.{◌≡◌, ℕ, ◌-◌, nat_lt, ◌&&◌, Bool, true, false, List, [], ◌∷◌, Some, None, refl}
-use Rattle.grammar_rules.specs.Rules.{Rule, Verdict, takes, faults, refuses, limited, terminal, token, nothing, made, sequence, preceded_by, followed_by, either, one_of_two, where_room}
+use Rattle.std.proofs.Common.{◌≡◌, ℕ, ◌-◌, nat_lt, ◌&&◌, Bool, true, false, List, [], ◌∷◌, Option, Some, None, is_some, refl, ◌∙◌}
+use Rattle.grammar_rules.specs.Rules.{Rule, Verdict, takes, faults, refuses, limited, told, terminal, token, nothing, made, sequence, preceded_by, followed_by, either, one_of_two, where_room}
 use Rattle.grammar_rules.specs.Readers.{Outcome, found, and_then, read_made, read_terminal, is_seen, chosen, read_past, read_before, read_either, read_where_room}
-use Rattle.grammar_rules.specs.Counted.{Counted, plain, one_more, given, both, after, past, before, maybe}
-use Rattle.grammar_rules.specs.CountedReaders.{CountedReader, read_plain, read_one_more, read_given, read_both, read_after, read_counted_past, read_counted_before, read_maybe}
+use Rattle.grammar_rules.specs.Counted.{Counted, plain, one_more, given, both, after, past, before, maybe, item}
+use Rattle.grammar_rules.specs.CountedReaders.{CountedReader, read_plain, read_one_more, read_given, read_both, read_after, read_counted_past, read_counted_before, read_maybe, read_item}
 use Rattle.grammar_rules.proofs.Clear.{Sight}
 use Rattle.grammar_rules.proofs.Sequences.{Apart, sequence_sight}
 use Rattle.grammar_rules.proofs.Terminals.{terminal_sight, nothing_sight}
-use Rattle.grammar_rules.proofs.Reading.{Reads, reads-terminal, reads-nothing, reads-made, reads-sequence, reads-past, reads-before, past_sight, before_sight, reads_seen}
+use Rattle.grammar_rules.proofs.Reading.{Reads, reads-terminal, reads-nothing, reads-made, reads-sequence, reads-past, reads-before, past_sight, before_sight, token_sight, reads_seen}
 use Rattle.grammar_rules.proofs.Choices.{optional_sight, reads-either}
 
 -- the reader reads the rule from each count, with this lookahead
@@ -23,9 +23,9 @@ seen_limited k false (faults j) = refl
 seen_limited k false refuses = refl
 
 -- a terminal that sees what the test says
-pub reads_look : {T K A : Type 0} (look : T → Verdict K A) (first : T → Bool) → ((t : T) → is_seen (look t) ≡ first t) → Reads (terminal look) (record { first = first; null = false; more = λ t. false }) (read_terminal look)
+pub reads_look : {T K A : Type 0} (look : T → Verdict K A) (first : T → Bool) → ((t : T) → is_seen (look t) ≡ first t) → Reads (terminal look) (token_sight first) (read_terminal look)
 reads_look look first e =
-    reads_seen (terminal look) (terminal_sight look) (record { first = first; null = false; more = λ t. false }) (read_terminal look)
+    reads_seen (terminal look) (terminal_sight look) (token_sight first) (read_terminal look)
     (record { first = λ t f. rw (← e t) f; null = λ f. f; more = λ t f. f })
     (λ t f. rw (e t) f) (λ f. f) (reads-terminal look)
 
@@ -33,17 +33,21 @@ reads_look look first e =
 pub reads-limited : {T K A : Type 0} (k : K) (room : Bool) (look : T → Verdict K A) → Reads (terminal (λ t. limited k room (look t))) (terminal_sight look) (read_terminal (λ t. limited k room (look t)))
 reads-limited k room look = reads_look (λ t. limited k room (look t)) (λ t. is_seen (look t)) (λ t. seen_limited k room (look t))
 
-module _ {T K A : Type 0} (G : Rule T K A) (s : Sight T) (read : List T → Outcome T K A) (g : Reads G s read) (wants : s.null ≡ false) (past : T → Verdict K A) (seen : (t : T) → is_seen (past t) ≡ s.first t) where
-  reads_past_room : Reads (terminal past) s (read_terminal past)
-  reads_past_room =
-      reads_seen (terminal past) (record { first = s.first; null = false; more = λ t. false }) s (read_terminal past)
-      (record { first = λ t f. f; null = λ f. cc; more = λ t f. cc })
-      (λ t f. f) (λ f. cc) (reads_look past s.first seen)
+seen_told : {K : Type 0} (A : Type 0) (o : Option K) → is_seen {A = A} (told o) ≡ is_some o
+seen_told A None = refl
+seen_told A (Some k) = refl
 
-  -- a rule where there is room for it, and else a verdict at each symbol that would begin it
-  pub reads-where_room : (room : Bool) → Reads (where_room room G past) s (read_where_room room read past)
+module _ {T K A : Type 0} (G : Rule T K A) (s : Sight T) (read : List T → Outcome T K A) (g : Reads G s read) (wants : s.null ≡ false) (over : T → Option K) (seen : (t : T) → is_some (over t) ≡ s.first t) where
+  reads_over : Reads (terminal (λ t. told {A = A} (over t))) s (read_terminal (λ t. told (over t)))
+  reads_over =
+      reads_seen (terminal (λ t. told (over t))) (token_sight s.first) s (read_terminal (λ t. told (over t)))
+      (record { first = λ t f. f; null = λ f. cc; more = λ t f. cc })
+      (λ t f. f) (λ f. cc) (reads_look (λ t. told (over t)) s.first (λ t. seen_told A (over t) ∙ seen t))
+
+  -- a rule where there is room for it, and else a fault at each symbol that would begin it
+  pub reads-where_room : (room : Bool) → Reads (where_room room over G) s (read_where_room room over read)
   reads-where_room true = g
-  reads-where_room false = reads_past_room
+  reads-where_room false = reads_over
 
 -- ---- counts
 
@@ -81,3 +85,9 @@ pub reads-maybe : {S T K A : Type 0} (G : Counted S T K A) (s : Sight T) (read :
 reads-maybe G s read g wants n =
     reads-either (given Some G n) (nothing (None, n)) s nothing_sight (read_given Some read n) (λ ts. found (None, n) ts)
     (reads-given Some G s read g n) (reads-nothing (None, n)) (λ x. and_false (s.first x)) wants
+
+-- an item of a list with a limit
+pub reads-item : {S T K A : Type 0} (over : T → Option K) (G : Counted S T K A) (s : Sight T) (read : CountedReader S T K A) → CountedReads G s read → s.null ≡ false → ((t : T) → is_some (over t) ≡ s.first t) → CountedReads (item over G) s (read_item over read)
+reads-item over G s read g wants seen c =
+    reads-where_room (made (λ p. (p.0, (c.0 - 1, p.1))) (G c.1)) s (λ left. read_made (λ p. (p.0, (c.0 - 1, p.1))) (read c.1 left))
+    (reads-made (λ p. (p.0, (c.0 - 1, p.1))) (G c.1) s (read c.1) (g c.1)) wants over seen (nat_lt 0 c.0)

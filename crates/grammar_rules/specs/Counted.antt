@@ -1,7 +1,7 @@
 -- Rules with a count beside their values: how many more of something may still come. Brackets leave no node in a tree, so a
 -- value alone doesn't tell it.
 use Rattle.std.specs.Prelude.{ℕ, zero, suc, ◌-◌, nat_lt, Bool, List, [], ◌∷◌, Option, Some, None}
-use Rattle.grammar_rules.specs.Rules.{Rule, Verdict, limited, terminal, token, nothing, made, sequence, begun, preceded_by, followed_by, either, alternatives}
+use Rattle.grammar_rules.specs.Rules.{Rule, Verdict, limited, terminal, token, nothing, made, sequence, preceded_by, followed_by, where_room, either, alternatives}
 
 -- a rule for each count before its texts, for their values and the count behind them. S is what is counted: a number, or several
 abbrev pub Counted : Type 0 → Type 0 → Type 0 → Type 0 → Type 1
@@ -55,3 +55,12 @@ many_from G n = alternatives (λ k. bounded_from k G n)
 -- one, and then as often as they come another: what `node` makes of its value and theirs
 abbrev pub chain : {S T K A B C : Type 0} → (A → List B → C) → Counted S T K A → Counted S T K B → Counted S T K C
 chain node first part n = given (λ p. node p.0 p.1) (both first (many_from part)) n
+
+-- one of the items of a list, of which so many may still come; where none may, the symbol that would begin it has the fault that
+-- `over` tells
+abbrev pub item : {S T K A : Type 0} → (T → Option K) → Counted S T K A → Counted (ℕ × S) T K A
+item over G c = where_room (nat_lt 0 c.0) over (made (λ p. (p.0, (c.0 - 1, p.1))) (G c.1))
+
+-- items with separators between them, at most so many
+abbrev pub list_of : {S T K A : Type 0} → ℕ → (T → Option K) → (T → Bool) → Counted S T K A → Counted S T K (List A)
+list_of limit over separates G n = made (λ p. (p.0, p.1.1)) (chain (λ a rest. a ∷ rest) (item over G) (past separates (item over G)) (limit, n))

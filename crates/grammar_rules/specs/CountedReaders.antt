@@ -1,7 +1,7 @@
 -- The readers of rules with a count, which mirror the rules.
-use Rattle.std.specs.Prelude.{ℕ, zero, suc, ◌-◌, nat_lt, Bool, List, [], ◌++◌, length, Option, Some, None}
+use Rattle.std.specs.Prelude.{ℕ, zero, suc, ◌-◌, nat_lt, Bool, List, [], ◌∷◌, ◌++◌, length, Option, Some, None}
 use Rattle.grammar_rules.specs.Rules.{Verdict, limited}
-use Rattle.grammar_rules.specs.Readers.{Outcome, found, failed, and_then, read_made, read_terminal, starts, chosen, read_past, read_before}
+use Rattle.grammar_rules.specs.Readers.{Outcome, found, failed, and_then, read_made, read_terminal, starts, chosen, read_past, read_before, read_where_room}
 use Rattle.grammar_rules.specs.Counted.{joined_to}
 
 -- a reader from each count, of a value and the count behind it
@@ -51,3 +51,12 @@ read_chain node test first part n ts = read_made (λ p. (node p.0.0 p.0.1, p.1))
 -- the rest of a chain, where the first and these others have been read
 unfoldable pub read_links : {S T K A B C : Type 0} → (A → List B → C) → (T → Bool) → CountedReader S T K B → A → List B → CountedReader S T K C
 read_links node test part a so_far n ts = read_made (λ q. (node a (so_far ++ q.0), q.1)) (read_many_from test part n ts)
+
+-- one of the items of a list, of which so many may still come
+abbrev pub read_item : {S T K A : Type 0} → (T → Option K) → CountedReader S T K A → CountedReader (ℕ × S) T K A
+read_item over read c ts = read_where_room (nat_lt 0 c.0) over (λ left. read_made (λ p. (p.0, (c.0 - 1, p.1))) (read c.1 left)) ts
+
+-- items with separators between them, at most so many
+abbrev pub read_list_of : {S T K A : Type 0} → ℕ → (T → Option K) → (T → Bool) → CountedReader S T K A → CountedReader S T K (List A)
+read_list_of limit over separates read n ts =
+    read_made (λ p. (p.0, p.1.1)) (read_chain (λ a rest. a ∷ rest) separates (read_item over read) (read_counted_past separates (read_item over read)) (limit, n) ts)

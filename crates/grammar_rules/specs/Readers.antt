@@ -1,7 +1,7 @@
 -- What a reader with one symbol of lookahead answers, and the readers that mirror the rules.
 use Rattle.std.specs.Prelude.{ℕ, zero, suc, Bool, true, false, List, [], ◌∷◌, length, drop, ◌-◌, Option, Some, None}
 use Rattle.grammar_rules.specs.Places.{Answer, value, refusal}
-use Rattle.grammar_rules.specs.Rules.{Verdict, takes, faults, refuses, without}
+use Rattle.grammar_rules.specs.Rules.{Verdict, takes, faults, refuses, told, without}
 
 -- a value and what is left after its text; or a failure at what is left: the first symbol there has
 -- this fault, or at None it is refused or missing
@@ -82,9 +82,9 @@ read_optional test read ts = chosen (starts test ts) (read_made Some (read ts)) 
 abbrev pub read_begun : {T K A B : Type 0} → (T → Verdict K A) → (A → List T → Outcome T K B) → List T → Outcome T K B
 read_begun look next ts = and_then (read_terminal look ts) next
 
--- the outcome where there is room, else that of the terminal `past`
-abbrev pub read_where_room : {T K A : Type 0} → Bool → (List T → Outcome T K A) → (T → Verdict K A) → List T → Outcome T K A
-read_where_room room read past ts = chosen room (read ts) (read_terminal past ts)
+-- the outcome where there is room, else the fault of the first symbol
+abbrev pub read_where_room : {T K A : Type 0} → Bool → (T → Option K) → (List T → Outcome T K A) → List T → Outcome T K A
+read_where_room room over read ts = chosen room (read ts) (read_terminal (λ t. told (over t)) ts)
 
 -- the second outcome, unless the first one found a value
 abbrev pub unless_found : {T K A : Type 0} → Outcome T K A → Outcome T K A → Outcome T K A

@@ -120,9 +120,14 @@ limited k false (takes a) = faults k
 limited k false (faults j) = faults j
 limited k false refuses = refuses
 
--- the rule where there is room for it, else what the verdict `past` says of the symbol that would begin it
-abbrev pub where_room : {T K A : Type 0} → Bool → Rule T K A → (T → Verdict K A) → Rule T K A
-where_room room G past = one_of_two G (terminal past) room
+-- the verdict on a symbol that has this fault
+abbrev pub told : {K A : Type 0} → Option K → Verdict K A
+told None = refuses
+told (Some k) = faults k
+
+-- the rule where there is room for it; else the symbol that would begin it has the fault that `over` tells
+abbrev pub where_room : {T K A : Type 0} → Bool → (T → Option K) → Rule T K A → Rule T K A
+where_room room over G = one_of_two G (terminal (λ t. told (over t))) room
 
 -- one after the other, for the list of the first one's value and the second one's
 abbrev pub headed : {T K A : Type 0} → Rule T K A → Rule T K (List A) → Rule T K (List A)
