@@ -12,6 +12,7 @@ pub mod Completions
 pub mod CountedMany
 pub mod Counts
 pub mod Depths
+pub mod EachValue
 pub mod ExpressionAnswers
 pub mod ExpressionFronts
 pub mod ExpressionLimits
@@ -28,6 +29,8 @@ pub mod Many
 pub mod Members
 pub mod Merging
 pub mod OneAnswer
+pub mod Places
+pub mod Printing
 pub mod Reading
 pub mod Repetitions
 pub mod Right

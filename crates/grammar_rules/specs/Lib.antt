@@ -5,6 +5,8 @@ pub mod Expressions
 pub mod Factored
 pub mod KeyedNumbers
 pub mod Parsing
+pub mod Placed
 pub mod Places
 pub mod Readers
 pub mod Rules
+pub mod Spelled
