@@ -10,14 +10,13 @@ use Rattle.grammar_rules.proofs.Right.{Stops, RefusedAt, Right}
 use Rattle.grammar_rules.proofs.Reading.{Reads, or_cases}
 use Rattle.grammar_rules.proofs.Choices.{closed-either}
 
--- what tells H from G: a front of H is one of G or a text of H, no front of G begins with a text of H, and neither knows the other's
--- faults. Where a text of G goes on to a front of H, it goes on as the test says
+-- what tells H from G: a front of H is one of G or a text of H, no front of G begins with a text of H, and H has no fault. `more` passes
+-- the last symbol of a text of H before which a text of G ends
 pub record Ahead {T K A : Type 0} (G H : Rule T K A) (more : T → Bool) : Type 0 where
   pub shared : (ts : List T) → H.Front fits ts → G.Front fits ts ⊎ ((a : A) × H.Spells a ts)
   pub own : (a : A) (pre : List T) (m : Last K) (r : List T) → H.Spells a pre → G.Front m (pre ++ r) → ⊥
   pub faultless : (k : K) (ts : List T) → H.Front (faulty k) ts → ⊥
-  pub unfaulted : (k : K) (pre : List T) (m : Last K) (r : List T) → G.Front (faulty k) pre → H.Front m (pre ++ r) → ⊥
-  pub goes_on : (a : A) (pre : List T) (m : Last K) (t : T) (r : List T) → G.Spells a pre → H.Front m (pre ++ t ∷ r) → more t ≡ true
+  pub ends : (a b : A) (pre : List T) (t : T) → G.Spells a pre → H.Spells b (pre ++ t ∷ []) → more t ≡ true
 
 -- the lookahead of both
 abbrev pub ahead_sight : {T : Type 0} → Sight T → Sight T → (T → Bool) → Sight T
@@ -39,16 +38,6 @@ module _ {T K A : Type 0} (G H : Rule T K A) (s t : Sight T) (more : T → Bool)
   empty_two a true v = g.empty a v
   empty_two a false v = absurd (not_empty a v)
 
-  goes_on_two : (a : A) (pre : List T) (m : Last K) (x : T) (r : List T) (i j : Bool) → (one_of_two G H i).Spells a pre → (one_of_two G H j).Front m (pre ++ x ∷ r) → (ahead_sight s t more).more x ≡ true
-  goes_on_two a pre m x r true true v f = or_left (s.more x || t.more x) (more x) (or_left (s.more x) (t.more x) (g.goes_on a pre m x r v f))
-  goes_on_two a pre m x r true false v f = or_right (s.more x || t.more x) (more x) (w.goes_on a pre m x r v f)
-  goes_on_two a pre m x r false true v f = absurd (w.own a pre m (x ∷ r) v f)
-  goes_on_two a pre m x r false false v f = or_left (s.more x || t.more x) (more x) (or_right (s.more x) (t.more x) (h.goes_on a pre m x r v f))
-
-  goes_on_ahead : (a : A) (pre : List T) (m : Last K) (x : T) (r : List T) → (either G H).Spells a pre → (either G H).Front m (pre ++ x ∷ r) → (ahead_sight s t more).more x ≡ true
-  goes_on_ahead a pre m x r v (inl e) = absurd (cons_not_nil pre x r e.1)
-  goes_on_ahead a pre m x r v (inr f) = goes_on_two a pre m x r v.0 f.0 v.1 f.1
-
   -- no text of H is one of G
   apart_texts : (a b : A) (ts : List T) → H.Spells a ts → G.Spells b ts → ⊥
   apart_texts a b ts v u = w.own a ts fits [] v (rw append-nil (g.fronts.spelled b ts u))
@@ -59,9 +48,41 @@ module _ {T K A : Type 0} (G H : Rule T K A) (s t : Sight T) (more : T → Bool)
   single_two a b ts false true v u = absurd (apart_texts a b ts v u)
   single_two a b ts false false v u = h.single a b ts v u
 
+  -- a front of H fits
+  front_fits : (m : Last K) (ts : List T) → H.Front m ts → H.Front fits ts
+  front_fits fits ts f = f
+  front_fits (faulty k) ts f = absurd (w.faultless k ts f)
+
+  front_of_longer : (m : Last K) (pre r : List T) → H.Front m (pre ++ r) → H.Front fits pre
+  front_of_longer m pre [] f = subst (λ l. H.Front fits l) (append-nil pre) (front_fits m (pre ++ []) f)
+  front_of_longer m pre (x ∷ r) f = h.fronts.closed m pre x r f
+
+  -- no front of H goes on from a fault of G
+  unfaulted : (k : K) (pre : List T) → G.Front (faulty k) pre → G.Front fits pre ⊎ ((a : A) × H.Spells a pre) → ⊥
+  unfaulted k pre f (inl x) = let e = (g.last k pre fits [] f (rw append-nil x)).1 in cc
+  unfaulted k pre f (inr v) = w.own v.0 pre (faulty k) [] v.1 (rw append-nil f)
+
+  -- with what a text of G goes on to a front of H
+  goes_on_cases : (a : A) (pre : List T) (x : T) → G.Spells a pre → G.Front fits (pre ++ x ∷ []) ⊎ ((b : A) × H.Spells b (pre ++ x ∷ [])) → (ahead_sight s t more).more x ≡ true
+  goes_on_cases a pre x v (inl f) = or_left (s.more x || t.more x) (more x) (or_left (s.more x) (t.more x) (g.goes_on a pre fits x [] v f))
+  goes_on_cases a pre x v (inr u) = or_right (s.more x || t.more x) (more x) (w.ends a u.0 pre x v u.1)
+
+  longer_front : (m : Last K) (pre : List T) (x : T) (r : List T) → H.Front m (pre ++ x ∷ r) → H.Front fits (pre ++ x ∷ [])
+  longer_front m pre x r f = front_of_longer m (pre ++ x ∷ []) r (subst (λ l. H.Front m l) (sym (append_assoc pre (x ∷ []) r)) f)
+
+  goes_on_two : (a : A) (pre : List T) (m : Last K) (x : T) (r : List T) (i j : Bool) → (one_of_two G H i).Spells a pre → (one_of_two G H j).Front m (pre ++ x ∷ r) → (ahead_sight s t more).more x ≡ true
+  goes_on_two a pre m x r true true v f = or_left (s.more x || t.more x) (more x) (or_left (s.more x) (t.more x) (g.goes_on a pre m x r v f))
+  goes_on_two a pre m x r true false v f = goes_on_cases a pre x v (w.shared (pre ++ x ∷ []) (longer_front m pre x r f))
+  goes_on_two a pre m x r false true v f = absurd (w.own a pre m (x ∷ r) v f)
+  goes_on_two a pre m x r false false v f = or_left (s.more x || t.more x) (more x) (or_right (s.more x) (t.more x) (h.goes_on a pre m x r v f))
+
+  goes_on_ahead : (a : A) (pre : List T) (m : Last K) (x : T) (r : List T) → (either G H).Spells a pre → (either G H).Front m (pre ++ x ∷ r) → (ahead_sight s t more).more x ≡ true
+  goes_on_ahead a pre m x r v (inl e) = absurd (cons_not_nil pre x r e.1)
+  goes_on_ahead a pre m x r v (inr f) = goes_on_two a pre m x r v.0 f.0 v.1 f.1
+
   last_two : (k : K) (pre : List T) (m : Last K) (r : List T) (i j : Bool) → (one_of_two G H i).Front (faulty k) pre → (one_of_two G H j).Front m (pre ++ r) → (r ≡ []) × (m ≡ faulty k)
   last_two k pre m r true true f x = g.last k pre m r f x
-  last_two k pre m r true false f x = absurd (w.unfaulted k pre m r f x)
+  last_two k pre m r true false f x = absurd (unfaulted k pre f (w.shared pre (front_of_longer m pre r x)))
   last_two k pre m r false j f x = absurd (w.faultless k pre f)
 
   ends_nil : (k : K) (pre r : List T) (i : Bool) → (one_of_two G H i).Front (faulty k) pre → pre ++ r ≡ [] → ⊥
@@ -150,3 +171,7 @@ module _ {T K A : Type 0} (G H : Rule T K A) (s t : Sight T) (more : T → Bool)
     empty = λ e. let v = g.empty e in (v.0, (true, v.1));
     right = λ ts. right-ahead G H s t more g.clear h.clear w wants ts (read ts) (ahead ts) (g.right ts) (h.right ts);
   }
+
+-- a list is no front where the reader refuses one of its symbols
+pub refused_no_front : {T K A : Type 0} (G : Rule T K A) (ts : List T) (t : T) (r : List T) (m : Last K) → RefusedAt G ts (t ∷ r) → G.Front m ts → ⊥
+refused_no_front G ts t r m w f = w.stops t r m r refl (subst (λ l. G.Front m l) w.is f)

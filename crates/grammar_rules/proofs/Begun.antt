@@ -1,6 +1,6 @@
 -- A choice that begins with one symbol, whose value tells what follows, is read.
-use Rattle.std.proofs.Common.{◌≡◌, ◌||◌, ◌&&◌, Bool, true, false, List, refl, inl}
-use Rattle.grammar_rules.specs.Rules.{Rule, Verdict, terminal, sequence, begun}
+use Rattle.std.proofs.Common.{◌≡◌, ◌||◌, ◌&&◌, Bool, true, false, List, [], ◌∷◌, ◌++◌, refl, inl, inr}
+use Rattle.grammar_rules.specs.Rules.{Rule, Last, fits, faulty, Verdict, takes, SpelledByOne, FrontOfOne, terminal, sequence, begun}
 use Rattle.grammar_rules.specs.Readers.{Outcome, and_then, read_terminal, is_seen, read_begun}
 use Rattle.grammar_rules.specs.Counted.{Counted, after}
 use Rattle.grammar_rules.specs.CountedReaders.{CountedReader, read_after}
@@ -46,3 +46,37 @@ reads-begun look H each next first seen h more wide =
 pub reads-counted_begun : {S T K A B : Type 0} (G : Counted S T K A) (H : A → Counted S T K B) (each : A → Sight T) (read : CountedReader S T K A) (next : A → CountedReader S T K B) (first : T → Bool) → CountedReads G (token_sight first) read → ((a : A) → CountedReads (H a) (each a) (next a)) → (more : T → Bool) → ((a : A) (x : T) → (each a).more x ≡ true → more x ≡ true) → CountedReads (after G H) (begun_sight first more) (read_after read next)
 reads-counted_begun G H each read next first g h more wide n =
     reads_behind_one (G n) (λ p. H p.0 p.1) first (λ p. each p.0) (read n) (λ p left. next p.0 p.1 left) (g n) (λ p. h p.0 p.1) more (λ p x e. wide p.0 x e)
+
+-- a text, and a front, of what begins with one symbol
+pub data TextBehind {T K A B : Type 0} (look : T → Verdict K A) (H : A → Rule T K B) (b : B) (ts : List T) : Type 0 where
+  text_behind : (t : T) (a : A) (r : List T) → ts ≡ t ∷ r → look t ≡ takes a → (H a).Spells b r → TextBehind look H b ts
+
+pub data FrontBehind {T K A B : Type 0} (look : T → Verdict K A) (H : A → Rule T K B) (last : Last K) (ts : List T) : Type 0 where
+  no_symbol : last ≡ fits → ts ≡ [] → FrontBehind look H last ts
+  one_symbol : (t : T) → ts ≡ t ∷ [] → FrontOfOne look last (t ∷ []) → FrontBehind look H last ts
+  front_behind : (t : T) (a : A) (r : List T) → ts ≡ t ∷ r → look t ≡ takes a → (H a).Front last r → FrontBehind look H last ts
+
+module _ {T K A B : Type 0} (look : T → Verdict K A) (H : A → Rule T K B) where
+  text_cases : (b : B) (ts : List T) (a : A) (left right : List T) → ts ≡ left ++ right → SpelledByOne look a left → (H a).Spells b right → TextBehind look H b ts
+  text_cases b ts a [] right e w v = absurd w
+  text_cases b ts a (t ∷ []) right e w v = text_behind t a right e w v
+  text_cases b ts a (t ∷ u ∷ left) right e w v = absurd w
+
+  pub begun_text : (b : B) (ts : List T) → (begun look H).Spells b ts → TextBehind look H b ts
+  begun_text b ts j = text_cases b ts j.value j.left j.right j.joined j.whole j.after
+
+  one_cases : (last : Last K) (ts : List T) → FrontOfOne look last ts → FrontBehind look H last ts
+  one_cases fits [] f = no_symbol refl refl
+  one_cases (faulty k) [] f = absurd f
+  one_cases last (t ∷ []) f = one_symbol t refl f
+  one_cases fits (t ∷ u ∷ ts) f = absurd f
+  one_cases (faulty k) (t ∷ u ∷ ts) f = absurd f
+
+  front_cases : (last : Last K) (ts : List T) (a : A) (left right : List T) → ts ≡ left ++ right → SpelledByOne look a left → (H a).Front last right → FrontBehind look H last ts
+  front_cases last ts a [] right e w f = absurd w
+  front_cases last ts a (t ∷ []) right e w f = front_behind t a right e w f
+  front_cases last ts a (t ∷ u ∷ left) right e w f = absurd w
+
+  pub begun_front : (last : Last K) (ts : List T) → (begun look H).Front last ts → FrontBehind look H last ts
+  begun_front last ts (inl f) = one_cases last ts f
+  begun_front last ts (inr j) = front_cases last ts j.value j.left j.right j.joined j.whole j.after

@@ -177,13 +177,14 @@ module _ {S T K A : Type 0} (limit : ℕ) (over : T → Option K) (separates : T
       (reads-item over G s read g wants seen) (reads-counted_past separates (item over G) s (read_item over read) (reads-item over G s read g wants seen))
       refl off off (limit, n)))
 
+-- how a chain begins
 module _ {S T K A B C : Type 0} (node : A → List B → C) (test : T → Bool) (first : CountedReader S T K A) (part : CountedReader S T K B) where
   begun_links : (a : A) (o : Outcome T K (List B × S)) → read_made {B = C × S} (λ p. (node p.0.0 p.0.1, p.1)) (read_made {B = (A × List B) × S} (λ q. ((a, q.0), q.1)) o) ≡ read_made {B = C × S} (λ q. (node a ([] ++ q.0), q.1)) o
   begun_links a (found q left) = refl
   begun_links a (failed k left) = refl
 
   -- the first has been read, or fails
-  pub chain_begin : (n : S) (ts : List T) (a : A) (m : S) (left : List T) → first n ts ≡ found (a, m) left → read_chain node test first part n ts ≡ read_links node test part a [] m left
+  pub chain_begin : (n : S) (ts : List T) (a : A) (m : S) (left : List T) → first n ts ≡ found (a, m) left → read_chain node test first part n ts ≡ read_links (node a) test part [] m left
   unfolding read_chain read_links
   chain_begin n ts a m left e = rw e (begun_links a (read_many_from test part m left))
 
@@ -191,20 +192,31 @@ module _ {S T K A B C : Type 0} (node : A → List B → C) (test : T → Bool) 
   unfolding read_chain
   chain_fail n ts k left e = rw e refl
 
-  module _ (less : CountedShrinks part) (a : A) (so_far : List B) (n : S) (ts : List T) where
-    joined_links : (b : B) (o : Outcome T K (List B × S)) → read_made {B = C × S} (λ q. (node a (so_far ++ q.0), q.1)) (read_made (joined_to b) o) ≡ read_made {B = C × S} (λ q. (node a ((so_far ++ b ∷ []) ++ q.0), q.1)) o
-    joined_links b (found q left) = rw append_assoc
-    joined_links b (failed k left) = refl
+-- how a list begins, whose first is one of its values
+module _ {S T K A : Type 0} (test : T → Bool) (first part : CountedReader S T K A) where
+  listed_links : (a : A) (o : Outcome T K (List A × S)) → read_made {B = List A × S} (λ p. (p.0.0 ∷ p.0.1, p.1)) (read_made {B = (A × List A) × S} (λ q. ((a, q.0), q.1)) o) ≡ read_made {B = List A × S} (λ q. ((a ∷ []) ++ q.0, q.1)) o
+  listed_links a (found q left) = refl
+  listed_links a (failed k left) = refl
 
-    -- one more has been read, no more stands there, or the next one fails
-    pub links_step : (b : B) (m : S) (left : List T) → starts test ts ≡ true → part n ts ≡ found (b, m) left → read_links node test part a so_far n ts ≡ read_links node test part a (so_far ++ b ∷ []) m left
-    unfolding read_links
-    links_step b m left e f = rw (read_many_from-unrolled test part less n ts, e, f) (joined_links b (read_many_from test part m left))
+  pub list_begin : (n : S) (ts : List T) (a : A) (m : S) (left : List T) → first n ts ≡ found (a, m) left → read_chain (λ b rest. b ∷ rest) test first part n ts ≡ read_links (λ all. all) test part (a ∷ []) m left
+  unfolding read_chain read_links
+  list_begin n ts a m left e = rw e (listed_links a (read_many_from test part m left))
 
-    pub links_stop : starts test ts ≡ false → read_links node test part a so_far n ts ≡ found (node a so_far, n) ts
-    unfolding read_links
-    links_stop e = rw (read_many_from-unrolled test part less n ts, e, append-nil)
+-- how it goes on
+module _ {S T K B C : Type 0} (node : List B → C) (test : T → Bool) (part : CountedReader S T K B) (less : CountedShrinks part) (so_far : List B) (n : S) (ts : List T) where
+  joined_links : (b : B) (o : Outcome T K (List B × S)) → read_made {B = C × S} (λ q. (node (so_far ++ q.0), q.1)) (read_made (joined_to b) o) ≡ read_made {B = C × S} (λ q. (node ((so_far ++ b ∷ []) ++ q.0), q.1)) o
+  joined_links b (found q left) = rw append_assoc
+  joined_links b (failed k left) = refl
 
-    pub links_fail : (k : Option K) (left : List T) → starts test ts ≡ true → part n ts ≡ failed k left → read_links node test part a so_far n ts ≡ failed k left
-    unfolding read_links
-    links_fail k left e f = rw (read_many_from-unrolled test part less n ts, e, f)
+  -- one more has been read, no more stands there, or the next one fails
+  pub links_step : (b : B) (m : S) (left : List T) → starts test ts ≡ true → part n ts ≡ found (b, m) left → read_links node test part so_far n ts ≡ read_links node test part (so_far ++ b ∷ []) m left
+  unfolding read_links
+  links_step b m left e f = rw (read_many_from-unrolled test part less n ts, e, f) (joined_links b (read_many_from test part m left))
+
+  pub links_stop : starts test ts ≡ false → read_links node test part so_far n ts ≡ found (node so_far, n) ts
+  unfolding read_links
+  links_stop e = rw (read_many_from-unrolled test part less n ts, e, append-nil)
+
+  pub links_fail : (k : Option K) (left : List T) → starts test ts ≡ true → part n ts ≡ failed k left → read_links node test part so_far n ts ≡ failed k left
+  unfolding read_links
+  links_fail k left e f = rw (read_many_from-unrolled test part less n ts, e, f)

@@ -16,7 +16,7 @@ CountedReads {S = S} G s read = (n : S) → Reads (G n) s (read n)
 
 -- ---- terminals with limits
 
-seen_limited : {K A : Type 0} (k : K) (room : Bool) (v : Verdict K A) → is_seen (limited k room v) ≡ is_seen v
+pub seen_limited : {K A : Type 0} (k : K) (room : Bool) (v : Verdict K A) → is_seen (limited k room v) ≡ is_seen v
 seen_limited k true v = refl
 seen_limited k false (takes a) = refl
 seen_limited k false (faults j) = refl
@@ -30,8 +30,8 @@ reads_look look first e =
     (λ t f. rw (e t) f) (λ f. f) (reads-terminal look)
 
 -- a limit doesn't change what is seen
-pub reads-limited : {T K A : Type 0} (k : K) (room : Bool) (look : T → Verdict K A) → Reads (terminal (λ t. limited k room (look t))) (terminal_sight look) (read_terminal (λ t. limited k room (look t)))
-reads-limited k room look = reads_look (λ t. limited k room (look t)) (λ t. is_seen (look t)) (λ t. seen_limited k room (look t))
+pub reads-limited : {T K A : Type 0} (k : K) (room : Bool) (look : T → Verdict K A) (first : T → Bool) → ((t : T) → is_seen (look t) ≡ first t) → Reads (terminal (λ t. limited k room (look t))) (token_sight first) (read_terminal (λ t. limited k room (look t)))
+reads-limited k room look first seen = reads_look (λ t. limited k room (look t)) first (λ t. seen_limited k room (look t) ∙ seen t)
 
 seen_told : {K : Type 0} (A : Type 0) (o : Option K) → is_seen {A = A} (told o) ≡ is_some o
 seen_told A None = refl
@@ -54,10 +54,10 @@ module _ {T K A : Type 0} (G : Rule T K A) (s : Sight T) (read : List T → Outc
 pub reads-plain : {S T K A : Type 0} (G : Rule T K A) (s : Sight T) (read : List T → Outcome T K A) → Reads G s read → CountedReads {S = S} (plain G) s (read_plain read)
 reads-plain G s read g n = reads-made (λ a. (a, n)) G s read g
 
-pub reads-one_more : {T K A : Type 0} (k : K) (look : T → Verdict K A) → CountedReads (one_more k look) (terminal_sight look) (read_one_more k look)
-reads-one_more k look n =
-    reads-made (λ a. (a, n - 1)) (terminal (λ t. limited k (nat_lt 0 n) (look t))) (terminal_sight look) (read_terminal (λ t. limited k (nat_lt 0 n) (look t)))
-    (reads-limited k (nat_lt 0 n) look)
+pub reads-one_more : {T K A : Type 0} (k : K) (look : T → Verdict K A) (first : T → Bool) → ((t : T) → is_seen (look t) ≡ first t) → CountedReads (one_more k look) (token_sight first) (read_one_more k look)
+reads-one_more k look first seen n =
+    reads-made (λ a. (a, n - 1)) (terminal (λ t. limited k (nat_lt 0 n) (look t))) (token_sight first) (read_terminal (λ t. limited k (nat_lt 0 n) (look t)))
+    (reads-limited k (nat_lt 0 n) look first seen)
 
 pub reads-given : {S T K A B : Type 0} (f : A → B) (G : Counted S T K A) (s : Sight T) (read : CountedReader S T K A) → CountedReads G s read → CountedReads (given f G) s (read_given f read)
 reads-given f G s read g n = reads-made (λ p. (f p.0, p.1)) (G n) s (read n) (g n)

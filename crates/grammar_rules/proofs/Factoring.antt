@@ -1,10 +1,11 @@
 -- How rules are factored: each law says that two forms say the same.
-use Rattle.std.proofs.Common.{◌≡◌, ◌&&◌, ◌⊎◌, Bool, true, false, List, [], ◌∷◌, ◌++◌, refl, sym, ap, ◌∙◌, subst, inl, inr, append_assoc, append-nil}
-use Rattle.grammar_rules.specs.Rules.{Rule, Last, fits, faulty, Joined, Verdict, takes, faults, refuses, SpelledByOne, FrontOfOne, terminal, nothing, made, sequence, begun, either, one_of_two, alternatives, Within, Same}
+use Rattle.std.proofs.Common.{◌≡◌, ℕ, ◌-◌, nat_lt, ◌⊎◌, Bool, true, false, List, [], ◌∷◌, ◌++◌, refl, sym, ap, ◌∙◌, subst, inl, inr, append_assoc, append-nil}
+use Rattle.grammar_rules.specs.Rules.{Rule, Last, fits, faulty, Joined, Verdict, limited, terminal, nothing, made, sequence, begun, either, one_of_two, alternatives, Within, Same}
 use Rattle.grammar_rules.specs.Readers.{is_seen}
+use Rattle.grammar_rules.specs.Counted.{Counted, one_more, given, both}
 use Rattle.grammar_rules.specs.Factored.{then_optional, verdict_made, merged, either_of}
 use Rattle.grammar_rules.proofs.Clear.{Closed}
-use Rattle.grammar_rules.proofs.Same.{same_refl, same_trans, same-either}
+use Rattle.grammar_rules.proofs.Same.{same_refl, same_trans, same-either, same-sequence}
 
 
 
@@ -124,6 +125,26 @@ module _ {T K A B C : Type 0} (f : A → B) (G : Rule T K A) (H : B → Rule T K
       front = out_of_first;
     };
   }
+
+-- ---- what begins with a counted terminal
+module _ {T K A : Type 0} (k : K) (look : T → Verdict K A) where
+  -- alone
+  pub same_one_alone : {B : Type 0} (f : A → B) (n : ℕ) → Same (given f (one_more k look) n) (made (λ a. (f a, n - 1)) (terminal (λ t. limited k (nat_lt 0 n) (look t))))
+  same_one_alone f n = same_made_twice (λ p. (f p.0, p.1)) (λ a. (a, n - 1)) (terminal (λ t. limited k (nat_lt 0 n) (look t)))
+
+  -- and with more behind it
+  pub same_one_and : {B C : Type 0} (H : Counted ℕ T K B) (f : A × B → C) (n : ℕ) → Same (given f (both (one_more k look) H) n) (begun (λ t. limited k (nat_lt 0 n) (look t)) (λ a. made (λ q. (f (a, q.0), q.1)) (H (n - 1))))
+  same_one_and {B = B} {C = C} H f n =
+      let F : (A × B) × ℕ → C × ℕ = λ p. (f p.0, p.1) in
+      let E : A × ℕ → B × ℕ → (A × B) × ℕ = λ p q. ((p.0, q.0), q.1) in
+      let outside : Rule T K (C × ℕ) = given f (both (one_more k look) H) n in
+      let inside : Rule T K (C × ℕ) = sequence (one_more k look n) (λ p. made F (made (E p) (H p.1))) in
+      let once : Rule T K (C × ℕ) = sequence (one_more k look n) (λ p. made (λ q. F (E p q)) (H p.1)) in
+      same_trans outside inside (begun (λ t. limited k (nat_lt 0 n) (look t)) (λ a. made (λ q. (f (a, q.0), q.1)) (H (n - 1))))
+      (same_made_second F (one_more k look n) (λ p. made (E p) (H p.1)))
+      (same_trans inside once (begun (λ t. limited k (nat_lt 0 n) (look t)) (λ a. made (λ q. (f (a, q.0), q.1)) (H (n - 1))))
+      (same-sequence (one_more k look n) (one_more k look n) (λ p. made F (made (E p) (H p.1))) (λ p. made (λ q. F (E p q)) (H p.1)) (same_refl (one_more k look n)) (λ p. same_made_twice F (E p) (H p.1)))
+      (same_made_first (λ a. (a, n - 1)) (terminal (λ t. limited k (nat_lt 0 n) (look t))) (λ p. made (λ q. F (E p q)) (H p.1))))
 
 module _ {T K A B : Type 0} (f : A → B) (G H : Rule T K A) where
   made_each : (b : B) (ts : List T) (a : A) → f a ≡ b → (i : Bool) → (one_of_two G H i).Spells a ts → (either (made f G) (made f H)).Spells b ts

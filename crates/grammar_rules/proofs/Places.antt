@@ -1,13 +1,7 @@
 -- The place of the first symbol that is left.
 use Rattle.std.proofs.Common.{◌≡◌, ℕ, suc, ◌-◌, List, [], ◌∷◌, ◌++◌, length, drop, refl, sym, ap, ◌∙◌, arith, length-append}
+use Rattle.grammar_rules.proofs.Answering.{left_over}
 use Rattle.grammar_rules.specs.Placed.{Placed, first_place, place_at}
-
-left_over : {T : Type 0} (pre left : List T) → drop (length (pre ++ left) - length left) (pre ++ left) ≡ left
-left_over [] left = let z : length left - length left ≡ 0 = omega arith in rw z refl
-left_over (s ∷ pre) left =
-    let n = length-append pre left in
-    let z : suc (length (pre ++ left)) - length left ≡ suc (length (pre ++ left) - length left) = omega arith in
-    rw z (left_over pre left)
 
 pub place-left : {P : Type 0} (size : ℕ) (symbols pre left : List (Placed P)) → symbols ≡ pre ++ left → first_place size left ≡ place_at size symbols (length symbols - length left)
 unfolding place_at

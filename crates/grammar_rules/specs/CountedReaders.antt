@@ -48,9 +48,9 @@ read_many_from test read n ts = read_bounded_from (suc (length ts)) test read n 
 unfoldable pub read_chain : {S T K A B C : Type 0} → (A → List B → C) → (T → Bool) → CountedReader S T K A → CountedReader S T K B → CountedReader S T K C
 read_chain node test first part n ts = read_made (λ p. (node p.0.0 p.0.1, p.1)) (read_both first (read_many_from test part) n ts)
 
--- the rest of a chain, where the first and these others have been read
-unfoldable pub read_links : {S T K A B C : Type 0} → (A → List B → C) → (T → Bool) → CountedReader S T K B → A → List B → CountedReader S T K C
-read_links node test part a so_far n ts = read_made (λ q. (node a (so_far ++ q.0), q.1)) (read_many_from test part n ts)
+-- the rest of a chain, where these others have been read: what `node` makes of all others
+unfoldable pub read_links : {S T K B C : Type 0} → (List B → C) → (T → Bool) → CountedReader S T K B → List B → CountedReader S T K C
+read_links node test part so_far n ts = read_made (λ q. (node (so_far ++ q.0), q.1)) (read_many_from test part n ts)
 
 -- one of the items of a list, of which so many may still come
 abbrev pub read_item : {S T K A : Type 0} → (T → Option K) → CountedReader S T K A → CountedReader (ℕ × S) T K A

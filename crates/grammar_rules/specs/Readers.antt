@@ -1,6 +1,6 @@
 -- What a reader with one symbol of lookahead answers, and the readers that mirror the rules.
 use Rattle.std.specs.Prelude.{ℕ, zero, suc, Bool, true, false, List, [], ◌∷◌, length, drop, ◌-◌, Option, Some, None}
-use Rattle.grammar_rules.specs.Places.{Answer, value, refusal}
+use Rattle.grammar_rules.specs.Places.{Answer, value, refusal, named_first}
 use Rattle.grammar_rules.specs.Rules.{Verdict, takes, faults, refuses, told, without}
 
 -- a value and what is left after its text; or a failure at what is left: the first symbol there has
@@ -140,3 +140,10 @@ abbrev pub answer : {T K A : Type 0} → ℕ → Outcome T K A → Answer K A
 answer size (found a []) = value a
 answer size (found a (t ∷ left)) = refusal None (size - length (t ∷ left))
 answer size (failed e left) = refusal e (size - length left)
+
+-- the same where a refusal at a symbol that has a name is told by that name
+abbrev pub answer_named : {T K A : Type 0} → (T → Option K) → ℕ → Outcome T K A → Answer K A
+answer_named name size (found a []) = value a
+answer_named name size (found a (t ∷ left)) = refusal (name t) (size - length (t ∷ left))
+answer_named name size (failed None left) = refusal (named_first name left) (size - length left)
+answer_named name size (failed (Some k) left) = refusal (Some k) (size - length left)
