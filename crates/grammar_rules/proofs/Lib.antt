@@ -13,15 +13,9 @@ pub mod CountedMany
 pub mod Counts
 pub mod Depths
 pub mod EachValue
-pub mod ExpressionAnswers
-pub mod ExpressionFronts
-pub mod ExpressionLimits
-pub mod ExpressionProofs
-pub mod ExpressionSteps
 pub mod Factoring
 pub mod Families
 pub mod Fronts
-pub mod KeyedProofs
 pub mod Limited
 pub mod LimitedAnswers
 pub mod Lists
@@ -37,3 +31,9 @@ pub mod Right
 pub mod Same
 pub mod Sequences
 pub mod Terminals
+pub mod WorkedExpressionAnswers
+pub mod WorkedExpressionFronts
+pub mod WorkedExpressionLimits
+pub mod WorkedExpressionProofs
+pub mod WorkedExpressionSteps
+pub mod WorkedKeyedProofs

@@ -1,12 +1,12 @@
 pub mod Counted
 pub mod CountedReaders
-pub mod ExpressionReaders
-pub mod Expressions
 pub mod Factored
-pub mod KeyedNumbers
-pub mod Parsing
 pub mod Placed
 pub mod Places
 pub mod Readers
 pub mod Rules
 pub mod Spelled
+pub mod WorkedExpressionReaders
+pub mod WorkedExpressions
+pub mod WorkedKeyedNumbers
+pub mod WorkedParsing

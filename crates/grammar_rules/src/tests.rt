@@ -1,8 +1,8 @@
 //! Worked examples, whose values and places are told by the grammars as they are written.
 
-use crate::{
-    Cursor, Expression, KeyedError, MAX_DEPTH, ParseError, Sign, Token, parse, read_entries,
-};
+use crate::Cursor;
+use crate::worked::arithmetic::{Expression, MAX_DEPTH, ParseError, Token, parse};
+use crate::worked::keyed::{KeyedError, Sign, read_entries};
 use sqlite_items::Items;
 use std::test::Fail;
 

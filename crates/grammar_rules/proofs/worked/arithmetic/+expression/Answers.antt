@@ -1,11 +1,11 @@
 -- The parser's functions follow their readers.
 use Rattle.std.proofs.Common.{sym, ap, ◌∙◌, arith, rules, length, length-drop}
 use Rattle.std.proofs.lemmas.Result.{err_from_is_err_and}
-use Rattle.grammar_rules.specs.Parsing.{fault_of}
-use Rattle.grammar_rules.specs.declared.arithmetic.Expression.TheVariants.{Sum}
+use Rattle.grammar_rules.specs.WorkedParsing.{fault_of}
+use Rattle.grammar_rules.specs.declared.worked.arithmetic.Expression.TheVariants.{Sum}
 use Rattle.grammar_rules.specs.Readers.{read_made}
-use Rattle.grammar_rules.proofs.ExpressionSteps.{group_is, arguments_is, terms_step, terms_stop, terms_fail, sums_step, sums_stop, sums_fail, sum_begins, list_begins}
-use Rattle.grammar_rules.proofs.arithmetic.+expression.Goals as goal
+use Rattle.grammar_rules.proofs.WorkedExpressionSteps.{group_is, arguments_is, terms_step, terms_stop, terms_fail, sums_step, sums_stop, sums_fail, sum_begins, list_begins}
+use Rattle.grammar_rules.proofs.worked.arithmetic.+expression.Goals as goal
 
 pub group-returns-in_err-left-clause-gives : goal.group-returns-in_err-left-clause-gives
 group-returns-in_err-left-clause-gives t c = rw (group_is c.args.depth c.args.tokens.now) (search rules)

@@ -1,10 +1,10 @@
 -- What the loops over the terms and the arguments have read, and that the descent ends.
 use Rattle.std.proofs.Common.{◌≡◌, ◌+◌, ◌*◌, ◌≤◌, length}
-use Rattle.grammar_rules.specs.declared.arithmetic.Expression.TheVariants.{Sum}
+use Rattle.grammar_rules.specs.declared.worked.arithmetic.Expression.TheVariants.{Sum}
 use Rattle.grammar_rules.specs.Readers.{read_made}
-use Rattle.grammar_rules.specs.ExpressionReaders.{read_sum, read_list, read_brackets}
-use Rattle.grammar_rules.proofs.ExpressionSteps.{terms_left, sums_left}
-use Rattle.grammar_rules.proofs.arithmetic.+expression.Given as goal
+use Rattle.grammar_rules.specs.WorkedExpressionReaders.{read_sum, read_list, read_brackets}
+use Rattle.grammar_rules.proofs.WorkedExpressionSteps.{terms_left, sums_left}
+use Rattle.grammar_rules.proofs.worked.arithmetic.+expression.Given as goal
 
 abbrev pub decreases-arguments : goal.decreases-arguments
 decreases-arguments l = 4 * l.depth

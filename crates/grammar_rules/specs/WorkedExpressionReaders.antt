@@ -1,9 +1,9 @@
 -- The readers of the small grammar of sums, which mirror its rules one by one.
 use Rattle.std.specs.Prelude.{ℕ, zero, suc, List, drop, None}
-use Rattle.grammar_rules.specs.declared.arithmetic.Token.{Token}
-use Rattle.grammar_rules.specs.declared.arithmetic.Expression.{Expression}
-use Rattle.grammar_rules.specs.declared.arithmetic.Expression.TheVariants.{Sum, Call}
-use Rattle.grammar_rules.specs.Expressions.{Limit, too_deep, is_plus, is_comma, is_open, is_close, number, name}
+use Rattle.grammar_rules.specs.declared.worked.arithmetic.Token.{Token}
+use Rattle.grammar_rules.specs.declared.worked.arithmetic.Expression.{Expression}
+use Rattle.grammar_rules.specs.declared.worked.arithmetic.Expression.TheVariants.{Sum, Call}
+use Rattle.grammar_rules.specs.WorkedExpressions.{Limit, too_deep, is_plus, is_comma, is_open, is_close, number, name}
 use Rattle.grammar_rules.specs.Readers.{Outcome, found, failed, read_made, read_terminal, is_seen, starts, chosen, read_fault, read_past, read_before, read_pair, read_headed, read_either, read_many}
 
 -- the readers of what stands with its brackets

@@ -1,6 +1,6 @@
 -- The law of the grammar's fronts.
-use Rattle.grammar_rules.proofs.ExpressionFronts.{front_begins_expression}
-use Rattle.grammar_rules.proofs.arithmetic.fronts_begin_expressions.Goals as goal
+use Rattle.grammar_rules.proofs.WorkedExpressionFronts.{front_begins_expression}
+use Rattle.grammar_rules.proofs.worked.arithmetic.fronts_begin_expressions.Goals as goal
 
 pub returns : goal.returns
 returns c = record {

@@ -1,9 +1,9 @@
 -- The outcome of the whole text is its answer.
 use Rattle.std.proofs.Common.{◌-◌, length, Ok, Err, sym, ◌∙◌}
-use Rattle.grammar_rules.specs.declared.arithmetic.ParseError.TheVariants.{Syntax}
-use Rattle.grammar_rules.specs.Parsing.{answer_of, error_of}
-use Rattle.grammar_rules.proofs.ExpressionAnswers.{at_end, before_end, failed_said, only_answer, ok_at_any_depth, syntax_at_any_depth}
-use Rattle.grammar_rules.proofs.arithmetic.parse.Goals as goal
+use Rattle.grammar_rules.specs.declared.worked.arithmetic.ParseError.TheVariants.{Syntax}
+use Rattle.grammar_rules.specs.WorkedParsing.{answer_of, error_of}
+use Rattle.grammar_rules.proofs.WorkedExpressionAnswers.{at_end, before_end, failed_said, only_answer, ok_at_any_depth, syntax_at_any_depth}
+use Rattle.grammar_rules.proofs.worked.arithmetic.parse.Goals as goal
 
 pub returns-then-left-eq0 : goal.returns-then-left-eq0
 returns-then-left-eq0 c =

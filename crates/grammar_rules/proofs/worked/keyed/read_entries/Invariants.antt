@@ -1,7 +1,7 @@
 -- What the loop has read, and that it ends.
 use Rattle.std.proofs.Common.{◌≡◌, ◌≤◌, length, true}
-use Rattle.grammar_rules.proofs.KeyedProofs.{read_free, entries_left}
-use Rattle.grammar_rules.proofs.keyed.read_entries.Given as goal
+use Rattle.grammar_rules.proofs.WorkedKeyedProofs.{read_free, entries_left}
+use Rattle.grammar_rules.proofs.worked.keyed.read_entries.Given as goal
 
 abbrev pub invariant-entries : goal.invariant-entries
 invariant-entries l = record {

@@ -3,7 +3,7 @@
 ghost use Rattle.std.specs.Prelude.{◌≡◌, ℕ, List, nat_eq, IfSome};
 ghost use Rattle.std.specs.List.{list_any};
 ghost use Rattle.grammar_rules.specs.Places.{Answer, Answers};
-ghost use Rattle.grammar_rules.specs.KeyedNumbers.{entries, keyed_answer, HasNewKey, TakesValue};
+ghost use Rattle.grammar_rules.specs.WorkedKeyedNumbers.{entries, keyed_answer, HasNewKey, TakesValue};
 
 use crate::cursor::Cursor;
 use sqlite_items::Items;
@@ -26,7 +26,7 @@ pub enum KeyedError {
 
 impl From<AllocError> for KeyedError {
     ghost use Rattle.std.specs.Prelude.{◌≡◌};
-    ghost use Rattle.grammar_rules.specs.declared.keyed.KeyedError.TheVariants.{OutOfMemory};
+    ghost use Rattle.grammar_rules.specs.declared.worked.keyed.KeyedError.TheVariants.{OutOfMemory};
 
     ghost from_gives = { λ _ e. e ≡ OutOfMemory };
 

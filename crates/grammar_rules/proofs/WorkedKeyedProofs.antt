@@ -3,12 +3,12 @@ use Rattle.std.proofs.Common.{◌≡◌, ◌<◌, ℕ, ◌&&◌, ◌||◌, ◌-�
 use mathlib.Core.Path.{fun_ext}
 use Rattle.std.proofs.lemmas.List.Folds.{list_any-append}
 use Rattle.std.specs.List.{list_any}
-use Rattle.grammar_rules.specs.declared.keyed.Sign.{Sign}
-use Rattle.grammar_rules.specs.declared.keyed.Sign.TheVariants.{Key, Value}
+use Rattle.grammar_rules.specs.declared.worked.keyed.Sign.{Sign}
+use Rattle.grammar_rules.specs.declared.worked.keyed.Sign.TheVariants.{Key, Value}
 use Rattle.grammar_rules.specs.Rules.{terminal, without}
 use Rattle.grammar_rules.specs.Readers.{Outcome, found, failed, read_made, read_terminal, starts, is_free, read_member, read_members, answer}
 use Rattle.grammar_rules.specs.Places.{Answer, value, refusal, Answers}
-use Rattle.grammar_rules.specs.KeyedNumbers.{is_key, number_of, entry, entries, key_of, read_entry, is_new}
+use Rattle.grammar_rules.specs.WorkedKeyedNumbers.{is_key, number_of, entry, entries, key_of, read_entry, is_new}
 use Rattle.grammar_rules.proofs.Clear.{Sight}
 use Rattle.grammar_rules.proofs.Terminals.{terminal_sight}
 use Rattle.grammar_rules.proofs.Reading.{Reads, past_sight, reads-past, reads-terminal}

@@ -6,10 +6,10 @@
 --
 -- and of its readers, which mirror the rules one by one.
 use Rattle.std.specs.Prelude.{ℕ, zero, suc, Bool, true, false, List}
-use Rattle.grammar_rules.specs.declared.arithmetic.Token.{Token}
-use Rattle.grammar_rules.specs.declared.arithmetic.Token.TheVariants.{Number, Name, Plus, Comma, Open, Close}
-use Rattle.grammar_rules.specs.declared.arithmetic.Expression.{Expression}
-use Rattle.grammar_rules.specs.declared.arithmetic.Expression.TheVariants.{Literal, Sum, Call}
+use Rattle.grammar_rules.specs.declared.worked.arithmetic.Token.{Token}
+use Rattle.grammar_rules.specs.declared.worked.arithmetic.Token.TheVariants.{Number, Name, Plus, Comma, Open, Close}
+use Rattle.grammar_rules.specs.declared.worked.arithmetic.Expression.{Expression}
+use Rattle.grammar_rules.specs.declared.worked.arithmetic.Expression.TheVariants.{Literal, Sum, Call}
 use Rattle.grammar_rules.specs.Rules.{Rule, Verdict, takes, refuses, terminal, token, fault, never, made, either, headed, many, followed_by, preceded_by, ◌&◌, alternatives}
 
 -- the one limit: brackets that are nested too deep

@@ -1,20 +1,20 @@
 -- What the parser's outcome says of the text, in the grammar's words.
 use Rattle.std.proofs.Common.{◌≡◌, ◌≢◌, ℕ, ◌-◌, List, [], ◌∷◌, length, Option, Some, None, Result, Ok, Err, IfOk, IfSome, refl, subst, arith}
-use Rattle.grammar_rules.specs.declared.arithmetic.Token.{Token}
-use Rattle.grammar_rules.specs.declared.arithmetic.Expression.{Expression}
-use Rattle.grammar_rules.specs.declared.arithmetic.ParseError.{ParseError}
-use Rattle.grammar_rules.specs.declared.arithmetic.Failure.{Failure}
-use Rattle.grammar_rules.specs.declared.arithmetic.Failure.TheVariants.{Refused, Deep, Memory}
+use Rattle.grammar_rules.specs.declared.worked.arithmetic.Token.{Token}
+use Rattle.grammar_rules.specs.declared.worked.arithmetic.Expression.{Expression}
+use Rattle.grammar_rules.specs.declared.worked.arithmetic.ParseError.{ParseError}
+use Rattle.grammar_rules.specs.declared.worked.arithmetic.Failure.{Failure}
+use Rattle.grammar_rules.specs.declared.worked.arithmetic.Failure.TheVariants.{Refused, Deep, Memory}
 use Rattle.grammar_rules.specs.Readers.{Outcome, found, failed, answer}
 use Rattle.grammar_rules.specs.Places.{RefusedThere, Answer, value, refusal, Answers}
-use Rattle.grammar_rules.specs.Expressions.{Limit, too_deep, expression, any_expression, brackets, sum}
-use Rattle.grammar_rules.specs.ExpressionReaders.{read_sum, read_brackets}
-use Rattle.grammar_rules.specs.Parsing.{answer_of, error_of, fault_of}
+use Rattle.grammar_rules.specs.WorkedExpressions.{Limit, too_deep, expression, any_expression, brackets, sum}
+use Rattle.grammar_rules.specs.WorkedExpressionReaders.{read_sum, read_brackets}
+use Rattle.grammar_rules.specs.WorkedParsing.{answer_of, error_of, fault_of}
 use Rattle.grammar_rules.proofs.Answering.{answers}
 use Rattle.grammar_rules.proofs.OneAnswer.{one_answer}
-use Rattle.grammar_rules.specs.declared.arithmetic.ParseError.TheVariants.{Syntax}
-use Rattle.grammar_rules.proofs.ExpressionLimits.{refused_at_any_depth, spelled_at_any_depth}
-use Rattle.grammar_rules.proofs.ExpressionProofs.{sum_sight, reads-expression}
+use Rattle.grammar_rules.specs.declared.worked.arithmetic.ParseError.TheVariants.{Syntax}
+use Rattle.grammar_rules.proofs.WorkedExpressionLimits.{refused_at_any_depth, spelled_at_any_depth}
+use Rattle.grammar_rules.proofs.WorkedExpressionProofs.{sum_sight, reads-expression}
 
 module _ (depth : ℕ) (ts : List Token) where
   -- the outcome of the readers, as an answer, is what the grammar says

@@ -2,11 +2,11 @@
 
 ghost use Rattle.std.specs.Prelude.{◌≡◌, ℕ, ◌<◌, ◌≤◌, ◌++◌, List, length, IfOk, IfSome};
 ghost use Rattle.grammar_rules.specs.Rules.{fits};
-ghost use Rattle.grammar_rules.specs.Expressions.{is_plus, is_comma, is_open, is_close, Limit, expression, any_expression};
+ghost use Rattle.grammar_rules.specs.WorkedExpressions.{is_plus, is_comma, is_open, is_close, Limit, expression, any_expression};
 ghost use Rattle.grammar_rules.specs.Readers.{starts, closed_by};
-ghost use Rattle.grammar_rules.specs.ExpressionReaders.{read_open, read_term, read_sum, read_list, read_brackets};
+ghost use Rattle.grammar_rules.specs.WorkedExpressionReaders.{read_open, read_term, read_sum, read_list, read_brackets};
 ghost use Rattle.grammar_rules.specs.Places.{Answer, Answers, RefusedThere};
-ghost use Rattle.grammar_rules.specs.Parsing.{Gives, TakesNumber, TakesName, answer_of, error_of};
+ghost use Rattle.grammar_rules.specs.WorkedParsing.{Gives, TakesNumber, TakesName, answer_of, error_of};
 
 use crate::cursor::Cursor;
 use sqlite_items::Items;
@@ -54,7 +54,7 @@ enum Failure {
 
 impl From<AllocError> for Failure {
     ghost use Rattle.std.specs.Prelude.{◌≡◌};
-    ghost use Rattle.grammar_rules.specs.declared.arithmetic.Failure.TheVariants.{Memory};
+    ghost use Rattle.grammar_rules.specs.declared.worked.arithmetic.Failure.TheVariants.{Memory};
 
     ghost from_gives = { λ _ e. e ≡ Memory };
 

@@ -1,13 +1,13 @@
 -- The readers of the small grammar read its rules.
 use Rattle.std.proofs.Common.{◌≡◌, ℕ, zero, suc, ◌&&◌, false, List, refl}
-use Rattle.grammar_rules.specs.declared.arithmetic.Token.{Token}
-use Rattle.grammar_rules.specs.declared.arithmetic.Token.TheVariants.{Number, Name, Plus, Comma, Open, Close}
-use Rattle.grammar_rules.specs.declared.arithmetic.Expression.{Expression}
-use Rattle.grammar_rules.specs.declared.arithmetic.Expression.TheVariants.{Sum, Call}
+use Rattle.grammar_rules.specs.declared.worked.arithmetic.Token.{Token}
+use Rattle.grammar_rules.specs.declared.worked.arithmetic.Token.TheVariants.{Number, Name, Plus, Comma, Open, Close}
+use Rattle.grammar_rules.specs.declared.worked.arithmetic.Expression.{Expression}
+use Rattle.grammar_rules.specs.declared.worked.arithmetic.Expression.TheVariants.{Sum, Call}
 use Rattle.grammar_rules.specs.Rules.{Rule, terminal, token, either, headed, many, preceded_by, followed_by, ◌&◌}
 use Rattle.grammar_rules.specs.Readers.{Outcome, read_terminal, read_past, read_before, read_many, read_headed, read_pair, read_either}
-use Rattle.grammar_rules.specs.Expressions.{Limit, too_deep, is_plus, is_comma, is_open, is_close, number, name, Brackets, call, term, sum, enclosed, list, brackets}
-use Rattle.grammar_rules.specs.ExpressionReaders.{BracketReaders, read_call, read_term, read_sum, read_enclosed, read_list, read_brackets}
+use Rattle.grammar_rules.specs.WorkedExpressions.{Limit, too_deep, is_plus, is_comma, is_open, is_close, number, name, Brackets, call, term, sum, enclosed, list, brackets}
+use Rattle.grammar_rules.specs.WorkedExpressionReaders.{BracketReaders, read_call, read_term, read_sum, read_enclosed, read_list, read_brackets}
 use Rattle.grammar_rules.proofs.Clear.{Sight}
 use Rattle.grammar_rules.proofs.Sequences.{sequence_sight}
 use Rattle.grammar_rules.proofs.Terminals.{terminal_sight}

@@ -1,15 +1,15 @@
 -- The steps of the small grammar's parser, as equations of its readers.
 use Rattle.std.proofs.Common.{◌≡◌, ℕ, zero, suc, Bool, true, false, List, [], ◌∷◌, ◌++◌, drop, Option, Some, None, refl}
-use Rattle.grammar_rules.specs.declared.arithmetic.Token.{Token}
-use Rattle.grammar_rules.specs.declared.arithmetic.Expression.{Expression}
-use Rattle.grammar_rules.specs.declared.arithmetic.Expression.TheVariants.{Sum}
+use Rattle.grammar_rules.specs.declared.worked.arithmetic.Token.{Token}
+use Rattle.grammar_rules.specs.declared.worked.arithmetic.Expression.{Expression}
+use Rattle.grammar_rules.specs.declared.worked.arithmetic.Expression.TheVariants.{Sum}
 use Rattle.grammar_rules.specs.Rules.{token, preceded_by}
 use Rattle.grammar_rules.specs.Readers.{Outcome, found, failed, and_then, read_made, starts, chosen, read_past, closed_by, read_many}
-use Rattle.grammar_rules.specs.Expressions.{Limit, too_deep, is_plus, is_comma, is_open, is_close, term, sum, brackets}
-use Rattle.grammar_rules.specs.ExpressionReaders.{read_term, read_sum, read_list, read_brackets, read_open}
+use Rattle.grammar_rules.specs.WorkedExpressions.{Limit, too_deep, is_plus, is_comma, is_open, is_close, term, sum, brackets}
+use Rattle.grammar_rules.specs.WorkedExpressionReaders.{read_term, read_sum, read_list, read_brackets, read_open}
 use Rattle.grammar_rules.proofs.Reading.{past_sight, reads-past}
 use Rattle.grammar_rules.proofs.Many.{Shrinks, shrinks, many_step, many_stop, many_fail}
-use Rattle.grammar_rules.proofs.ExpressionProofs.{term_sight, sum_sight, reads-term, reads-expression, brackets_read}
+use Rattle.grammar_rules.proofs.WorkedExpressionProofs.{term_sight, sum_sight, reads-term, reads-expression, brackets_read}
 
 -- what is behind an opening bracket, as the parser goes through it
 behind_open : {A : Type 0} (depth : ℕ) (b : Bool) (ts : List Token) (next : ℕ → List Token → Outcome Token Limit A)

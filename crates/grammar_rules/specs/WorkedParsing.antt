@@ -1,15 +1,15 @@
 -- What the functions of the small grammar's parser answer, seen as outcomes and as answers.
 use Rattle.std.specs.Prelude.{◌≡◌, ◌≢◌, ℕ, List, ◌∷◌, false, Option, Some, None, Result, Ok, Err}
-use Rattle.grammar_rules.specs.declared.arithmetic.Token.{Token}
-use Rattle.grammar_rules.specs.declared.arithmetic.Token.TheVariants.{Number, Name}
-use Rattle.grammar_rules.specs.declared.arithmetic.Expression.{Expression}
-use Rattle.grammar_rules.specs.declared.arithmetic.Failure.{Failure}
-use Rattle.grammar_rules.specs.declared.arithmetic.Failure.TheVariants.{Refused, Deep, Memory}
-use Rattle.grammar_rules.specs.declared.arithmetic.ParseError.{ParseError}
-use Rattle.grammar_rules.specs.declared.arithmetic.ParseError.TheVariants.{Syntax, TooDeep, OutOfMemory}
+use Rattle.grammar_rules.specs.declared.worked.arithmetic.Token.{Token}
+use Rattle.grammar_rules.specs.declared.worked.arithmetic.Token.TheVariants.{Number, Name}
+use Rattle.grammar_rules.specs.declared.worked.arithmetic.Expression.{Expression}
+use Rattle.grammar_rules.specs.declared.worked.arithmetic.Failure.{Failure}
+use Rattle.grammar_rules.specs.declared.worked.arithmetic.Failure.TheVariants.{Refused, Deep, Memory}
+use Rattle.grammar_rules.specs.declared.worked.arithmetic.ParseError.{ParseError}
+use Rattle.grammar_rules.specs.declared.worked.arithmetic.ParseError.TheVariants.{Syntax, TooDeep, OutOfMemory}
 use Rattle.grammar_rules.specs.Readers.{Outcome, found, failed, starts, is_seen}
 use Rattle.grammar_rules.specs.Places.{Answer, value, refusal}
-use Rattle.grammar_rules.specs.Expressions.{Limit, too_deep, number, name}
+use Rattle.grammar_rules.specs.WorkedExpressions.{Limit, too_deep, number, name}
 
 -- the fault that a failure tells
 abbrev pub fault_of : Failure → Option Limit

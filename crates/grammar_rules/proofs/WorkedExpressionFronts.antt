@@ -1,14 +1,14 @@
 -- Each front of an expression of any depth begins an expression.
 use Rattle.std.proofs.Common.{◌≡◌, ℕ, zero, suc, Bool, true, List, [], ◌∷◌, ◌++◌, refl, inl}
-use Rattle.grammar_rules.specs.declared.arithmetic.Token.{Token}
-use Rattle.grammar_rules.specs.declared.arithmetic.Token.TheVariants.{Number, Name, Plus, Comma, Open, Close}
-use Rattle.grammar_rules.specs.declared.arithmetic.Expression.{Expression}
-use Rattle.grammar_rules.specs.declared.arithmetic.Expression.TheVariants.{Literal, Sum, Call}
+use Rattle.grammar_rules.specs.declared.worked.arithmetic.Token.{Token}
+use Rattle.grammar_rules.specs.declared.worked.arithmetic.Token.TheVariants.{Number, Name, Plus, Comma, Open, Close}
+use Rattle.grammar_rules.specs.declared.worked.arithmetic.Expression.{Expression}
+use Rattle.grammar_rules.specs.declared.worked.arithmetic.Expression.TheVariants.{Literal, Sum, Call}
 use Rattle.grammar_rules.specs.Rules.{Rule, fits, terminal, token, never, made, either, headed, many, preceded_by, followed_by, ◌&◌, Completes}
-use Rattle.grammar_rules.specs.Expressions.{Limit, is_plus, is_comma, is_open, is_close, number, name, Brackets, call, term, sum, enclosed, list, some_brackets, any_expression}
+use Rattle.grammar_rules.specs.WorkedExpressions.{Limit, is_plus, is_comma, is_open, is_close, number, name, Brackets, call, term, sum, enclosed, list, some_brackets, any_expression}
 use Rattle.grammar_rules.proofs.Completions.{completes-terminal, completes-made, completes-sequence, completes-either, completes-pair, completes-headed, completes-many, completes-family, front_begins_text}
 use Rattle.grammar_rules.proofs.Alternatives.{closed-alternatives}
-use Rattle.grammar_rules.proofs.ExpressionLimits.{closed-sum, some_closed}
+use Rattle.grammar_rules.proofs.WorkedExpressionLimits.{closed-sum, some_closed}
 
 -- the brackets at one depth are completed at another
 record BracketsComplete (b b' : Brackets) : Type 0 where

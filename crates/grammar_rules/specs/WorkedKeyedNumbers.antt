@@ -4,10 +4,10 @@
 --   entry k = the key k, and a number
 use Rattle.std.specs.Prelude.{◌≡◌, ℕ, Bool, true, false, not, nat_eq, List, ◌∷◌, drop, Option, Some, None, Result, Ok, Err}
 use Rattle.std.specs.List.{list_any}
-use Rattle.grammar_rules.specs.declared.keyed.Sign.{Sign}
-use Rattle.grammar_rules.specs.declared.keyed.Sign.TheVariants.{Key, Value}
-use Rattle.grammar_rules.specs.declared.keyed.KeyedError.{KeyedError}
-use Rattle.grammar_rules.specs.declared.keyed.KeyedError.TheVariants.{Refused, OutOfMemory}
+use Rattle.grammar_rules.specs.declared.worked.keyed.Sign.{Sign}
+use Rattle.grammar_rules.specs.declared.worked.keyed.Sign.TheVariants.{Key, Value}
+use Rattle.grammar_rules.specs.declared.worked.keyed.KeyedError.{KeyedError}
+use Rattle.grammar_rules.specs.declared.worked.keyed.KeyedError.TheVariants.{Refused, OutOfMemory}
 use Rattle.grammar_rules.specs.Rules.{Rule, Verdict, takes, refuses, terminal, token, preceded_by, members}
 use Rattle.grammar_rules.specs.Readers.{Outcome, failed, read_terminal, read_past, starts, is_free}
 use Rattle.grammar_rules.specs.Places.{Answer, value, refusal}

@@ -1,8 +1,8 @@
 -- The loop follows the reader of the members, and its outcome is the answer.
 use Rattle.std.proofs.Common.{◌-◌, length, drop, length-drop, Some, None, sym, ap, ◌∙◌, arith}
 use Rattle.grammar_rules.specs.Places.{value, refusal}
-use Rattle.grammar_rules.proofs.KeyedProofs.{entries_begin, entries_step, entries_stop, entries_fail, keyed_end, keyed_before_end, keyed_failure, keyed_only}
-use Rattle.grammar_rules.proofs.keyed.read_entries.Goals as goal
+use Rattle.grammar_rules.proofs.WorkedKeyedProofs.{entries_begin, entries_step, entries_stop, entries_fail, keyed_end, keyed_before_end, keyed_failure, keyed_only}
+use Rattle.grammar_rules.proofs.worked.keyed.read_entries.Goals as goal
 
 pub entries-init : goal.entries-init
 entries-init c = record {

@@ -1,11 +1,11 @@
 -- The expressions of limited depth among those of any depth, and that each front begins one.
 use Rattle.std.proofs.Common.{ℕ, zero, suc, ◌+◌, List, [], ◌∷◌, suc-add, zero-add}
-use Rattle.grammar_rules.specs.declared.arithmetic.Token.{Token}
-use Rattle.grammar_rules.specs.declared.arithmetic.Expression.{Expression}
-use Rattle.grammar_rules.specs.declared.arithmetic.Expression.TheVariants.{Sum, Call}
+use Rattle.grammar_rules.specs.declared.worked.arithmetic.Token.{Token}
+use Rattle.grammar_rules.specs.declared.worked.arithmetic.Expression.{Expression}
+use Rattle.grammar_rules.specs.declared.worked.arithmetic.Expression.TheVariants.{Sum, Call}
 use Rattle.grammar_rules.specs.Rules.{Rule, Last, fits, faulty, terminal, token, never, made, either, headed, many, preceded_by, followed_by, ◌&◌, Limits, Within}
 use Rattle.grammar_rules.specs.Places.{RefusedThere}
-use Rattle.grammar_rules.specs.Expressions.{Limit, too_deep, is_plus, is_comma, is_open, is_close, number, name, Brackets, call, term, sum, enclosed, list, brackets, some_brackets, expression, any_expression}
+use Rattle.grammar_rules.specs.WorkedExpressions.{Limit, too_deep, is_plus, is_comma, is_open, is_close, number, name, Brackets, call, term, sum, enclosed, list, brackets, some_brackets, expression, any_expression}
 use Rattle.grammar_rules.proofs.Clear.{Closed}
 use Rattle.grammar_rules.proofs.ClosedRules.{closed-pair, closed-headed, closed-token, closed-preceded_by, closed-followed_by, closed-many, preceded_starts, preceded_wants, preceded_no_fault}
 use Rattle.grammar_rules.proofs.Alternatives.{Within_refl}
@@ -14,7 +14,7 @@ use Rattle.grammar_rules.proofs.Choices.{closed-either}
 use Rattle.grammar_rules.proofs.Depths.{within-made, within-pair, within-either, within-headed, within-many, within-preceded_by, within-followed_by}
 use Rattle.grammar_rules.proofs.Limited.{limits_refl, limits-fault, limits-made, limits-sequence, limits-either, limits-pair, limits-headed, limits-many, limits-growing}
 use Rattle.grammar_rules.proofs.LimitedAnswers.{refused_without_limits}
-use Rattle.grammar_rules.proofs.ExpressionProofs.{sum_sight, reads-expression}
+use Rattle.grammar_rules.proofs.WorkedExpressionProofs.{sum_sight, reads-expression}
 
 -- closed fronts
 pub record BracketsClosed (b : Brackets) : Type 0 where
