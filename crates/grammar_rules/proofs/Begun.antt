@@ -1,10 +1,10 @@
 -- A choice that begins with one symbol, whose value tells what follows, is read.
-use Rattle.std.proofs.Common.{◌≡◌, ◌||◌, ◌&&◌, Bool, true, false, List, [], ◌∷◌, ◌++◌, refl, inl, inr}
-use Rattle.grammar_rules.specs.Rules.{Rule, Last, fits, faulty, Verdict, takes, SpelledByOne, FrontOfOne, terminal, sequence, begun}
+use Rattle.std.proofs.Common.{◌≡◌, ◌||◌, ◌&&◌, ◌⊎◌, if◌then◌else◌, Bool, true, false, List, [], ◌∷◌, ◌++◌, refl, inl, inr}
+use Rattle.grammar_rules.specs.Rules.{Rule, Last, fits, faulty, Verdict, takes, faults, refuses, SpelledByOne, FrontOfOne, terminal, token, sequence, begun, preceded_by}
 use Rattle.grammar_rules.specs.Readers.{Outcome, and_then, read_terminal, is_seen, read_begun}
 use Rattle.grammar_rules.specs.Counted.{Counted, after}
 use Rattle.grammar_rules.specs.CountedReaders.{CountedReader, read_after}
-use Rattle.grammar_rules.proofs.Clear.{Sight, Clear}
+use Rattle.grammar_rules.proofs.Clear.{Closed, Sight, Clear}
 use Rattle.grammar_rules.proofs.Sequences.{sequence_sight, clear-sequence}
 use Rattle.grammar_rules.proofs.Terminals.{clear-wider}
 use Rattle.grammar_rules.proofs.Right.{right-sequence}
@@ -80,3 +80,35 @@ module _ {T K A B : Type 0} (look : T → Verdict K A) (H : A → Rule T K B) wh
   pub begun_front : (last : Last K) (ts : List T) → (begun look H).Front last ts → FrontBehind look H last ts
   begun_front last ts (inl f) = one_cases last ts f
   begun_front last ts (inr j) = front_cases last ts j.value j.left j.right j.joined j.whole j.after
+
+-- the same behind a symbol that passes a test
+module _ {T : Type 0} (test : T → Bool) where
+  passed_cases : (K : Type 0) (t u : T) (b : Bool) → test t ≡ b → ◌≡◌ {A = Verdict K T} (if b then takes t else refuses) (takes u) → test t ≡ true
+  passed_cases K t u true p e = p
+  passed_cases K t u false p e = cc
+
+  passed : (K : Type 0) (t u : T) → ◌≡◌ {A = Verdict K T} (if test t then takes t else refuses) (takes u) → test t ≡ true
+  passed K t u e = passed_cases K t u (test t) refl e
+
+  never_faulty : {K : Type 0} (k : K) (t : T) (b : Bool) → (if b then takes t else refuses) ≡ faults k → ⊥
+  never_faulty k t true e = cc
+  never_faulty k t false e = cc
+
+  module _ {K A : Type 0} (G : Rule T K A) where
+    past_text_cases : (a : A) (ts : List T) → TextBehind (λ t. if test t then takes t else refuses) (λ t. G) a ts → (t : T) × (r : List T) × (ts ≡ t ∷ r) × (test t ≡ true) × G.Spells a r
+    past_text_cases a ts (text_behind t u r e f w) = (t, r, e, passed K t u f, w)
+
+    pub past_text : (a : A) (ts : List T) → (preceded_by (token test) G).Spells a ts → (t : T) × (r : List T) × (ts ≡ t ∷ r) × (test t ≡ true) × G.Spells a r
+    past_text a ts w = past_text_cases a ts (begun_text (λ t. if test t then takes t else refuses) (λ t. G) a ts w)
+
+    past_one : Closed G → (last : Last K) (t : T) → FrontOfOne (λ t. if test t then takes t else refuses) last (t ∷ []) → (test t ≡ true) × G.Front last []
+    past_one g fits t f = (passed K t f.0 f.1, g.nil)
+    past_one g (faulty k) t f = absurd (never_faulty k t (test t) f)
+
+    past_front_cases : Closed G → (last : Last K) (ts : List T) → FrontBehind (λ t. if test t then takes t else refuses) (λ t. G) last ts → ((last ≡ fits) × (ts ≡ [])) ⊎ ((t : T) × (r : List T) × (ts ≡ t ∷ r) × (test t ≡ true) × G.Front last r)
+    past_front_cases g last ts (no_symbol e f) = inl (e, f)
+    past_front_cases g last ts (one_symbol t e f) = let h = past_one g last t f in inr (t, [], e, h.0, h.1)
+    past_front_cases g last ts (front_behind t u r e f w) = inr (t, r, e, passed K t u f, w)
+
+    pub past_front : Closed G → (last : Last K) (ts : List T) → (preceded_by (token test) G).Front last ts → ((last ≡ fits) × (ts ≡ [])) ⊎ ((t : T) × (r : List T) × (ts ≡ t ∷ r) × (test t ≡ true) × G.Front last r)
+    past_front g last ts f = past_front_cases g last ts (begun_front (λ t. if test t then takes t else refuses) (λ t. G) last ts f)

@@ -1,7 +1,8 @@
 -- Rules with a count are read: one law a combinator, with one lookahead for all counts.
-use Rattle.std.proofs.Common.{◌≡◌, ℕ, ◌-◌, nat_lt, ◌&&◌, Bool, true, false, List, [], ◌∷◌, Option, Some, None, is_some, refl, ◌∙◌}
+use Rattle.std.proofs.Common.{◌≡◌, ℕ, zero, suc, ◌-◌, nat_lt, drop, arith, ◌&&◌, Bool, true, false, List, [], ◌∷◌, Option, Some, None, is_some, refl, ◌∙◌}
+use Rattle.std.proofs.lemmas.Bool.Decides.{nat_tests}
 use Rattle.grammar_rules.specs.Rules.{Rule, Verdict, takes, faults, refuses, limited, told, terminal, token, nothing, made, sequence, preceded_by, followed_by, either, one_of_two, where_room}
-use Rattle.grammar_rules.specs.Readers.{Outcome, found, and_then, read_made, read_terminal, is_seen, chosen, read_past, read_before, read_either, read_where_room}
+use Rattle.grammar_rules.specs.Readers.{Outcome, found, failed, and_then, read_made, read_symbol, starts, read_terminal, is_seen, chosen, read_past, read_before, read_either, read_where_room}
 use Rattle.grammar_rules.specs.Counted.{Counted, plain, one_more, given, both, after, past, before, maybe, item}
 use Rattle.grammar_rules.specs.CountedReaders.{CountedReader, read_plain, read_one_more, read_given, read_both, read_after, read_counted_past, read_counted_before, read_maybe, read_item}
 use Rattle.grammar_rules.proofs.Clear.{Sight}
@@ -33,6 +34,10 @@ reads_look look first e =
 pub reads-limited : {T K A : Type 0} (k : K) (room : Bool) (look : T → Verdict K A) (first : T → Bool) → ((t : T) → is_seen (look t) ≡ first t) → Reads (terminal (λ t. limited k room (look t))) (token_sight first) (read_terminal (λ t. limited k room (look t)))
 reads-limited k room look first seen = reads_look (λ t. limited k room (look t)) first (λ t. seen_limited k room (look t) ∙ seen t)
 
+some_left : (n : ℕ) → (n ≡ 0 → ⊥) → nat_lt 0 n ≡ true
+some_left zero z = absurd (z refl)
+some_left (suc n) z = grind (arith, nat_tests)
+
 seen_told : {K : Type 0} (A : Type 0) (o : Option K) → is_seen {A = A} (told o) ≡ is_some o
 seen_told A None = refl
 seen_told A (Some k) = refl
@@ -58,6 +63,29 @@ pub reads-one_more : {T K A : Type 0} (k : K) (look : T → Verdict K A) (first 
 reads-one_more k look first seen n =
     reads-made (λ a. (a, n - 1)) (terminal (λ t. limited k (nat_lt 0 n) (look t))) (token_sight first) (read_terminal (λ t. limited k (nat_lt 0 n) (look t)))
     (reads-limited k (nat_lt 0 n) look first seen)
+
+-- the steps of code that reads a counted symbol
+module _ {T K A : Type 0} (k : K) (look : T → Verdict K A) (n : ℕ) where
+  refused_limited : (room : Bool) (v : Verdict K A) (t : T) (ts : List T) → is_seen v ≡ false → read_made {B = A × ℕ} (λ a. (a, n - 1)) (read_symbol (limited k room v) t ts) ≡ failed None (t ∷ ts)
+  refused_limited room (takes a) t ts e = let p : true ≡ false = e in cc
+  refused_limited room (faults j) t ts e = let p : true ≡ false = e in cc
+  refused_limited true refuses t ts e = refl
+  refused_limited false refuses t ts e = refl
+
+  pub one_more_refused : (first : T → Bool) → ((t : T) → is_seen (look t) ≡ first t) → (ts : List T) → starts first ts ≡ false → read_one_more k look n ts ≡ failed None ts
+  one_more_refused first seen [] e = refl
+  one_more_refused first seen (t ∷ ts) e = refused_limited (nat_lt 0 n) (look t) t ts (seen t ∙ e)
+
+  pub one_more_over : (t : T) (a : A) (ts : List T) → ts ≡ t ∷ drop 1 ts → look t ≡ takes a → n ≡ 0 → read_one_more k look n ts ≡ failed (Some k) ts
+  one_more_over t a [] e f z = absurd (let p : [] ≡ t ∷ [] = e in cc)
+  one_more_over t a (u ∷ ts) e f z = let p : u ≡ t = cc in rw (p, z, f) refl
+
+  pub one_more_taken : (t : T) (a : A) (ts left : List T) → ts ≡ t ∷ drop 1 ts → look t ≡ takes a → (n ≡ 0 → ⊥) → left ≡ drop 1 ts → read_one_more k look n ts ≡ found (a, n - 1) left
+  one_more_taken t a [] left e f z l = absurd (let p : [] ≡ t ∷ [] = e in cc)
+  one_more_taken t a (u ∷ ts) left e f z l =
+      let p : u ≡ t = cc in
+      let q : nat_lt 0 n ≡ true = some_left n z in
+      rw (p, f, q, l) refl
 
 pub reads-given : {S T K A B : Type 0} (f : A → B) (G : Counted S T K A) (s : Sight T) (read : CountedReader S T K A) → CountedReads G s read → CountedReads (given f G) s (read_given f read)
 reads-given f G s read g n = reads-made (λ p. (f p.0, p.1)) (G n) s (read n) (g n)

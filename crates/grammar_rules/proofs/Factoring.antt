@@ -7,10 +7,6 @@ use Rattle.grammar_rules.specs.Factored.{then_optional, verdict_made, merged, ei
 use Rattle.grammar_rules.proofs.Clear.{Closed}
 use Rattle.grammar_rules.proofs.Same.{same_refl, same_trans, same-either, same-sequence}
 
-
-
-
-
 -- behind a whole text nothing more
 front_whole : {T K A : Type 0} (G : Rule T K A) → Closed G → (last : Last K) (ts left right : List T) (a : A) → ts ≡ left ++ right → G.Spells a left → last ≡ fits → right ≡ [] → G.Front last ts
 front_whole G g last ts left right a e w f n =

@@ -37,3 +37,6 @@ pub mod WorkedExpressionLimits
 pub mod WorkedExpressionProofs
 pub mod WorkedExpressionSteps
 pub mod WorkedKeyedProofs
+pub mod WorkedSelectionAnswers
+pub mod WorkedSelectionReads
+pub mod WorkedSelectionSteps

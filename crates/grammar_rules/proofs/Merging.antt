@@ -1,6 +1,6 @@
 -- Two choices that begin with different symbols are one choice.
 use Rattle.std.proofs.Common.{◌≡◌, ◌||◌, ◌&&◌, ◌⊎◌, Bool, true, false, List, [], ◌∷◌, ◌++◌, refl, sym, subst, inl, inr}
-use Rattle.grammar_rules.specs.Rules.{Rule, Last, fits, faulty, Joined, Verdict, takes, faults, refuses, SpelledByOne, FrontOfOne, terminal, made, begun, either, one_of_two, Within, Same}
+use Rattle.grammar_rules.specs.Rules.{Rule, Last, fits, faulty, Joined, Verdict, takes, faults, refuses, limited, SpelledByOne, FrontOfOne, terminal, made, begun, either, one_of_two, Within, Same}
 use Rattle.grammar_rules.specs.Readers.{is_seen}
 use Rattle.grammar_rules.specs.Factored.{verdict_made, merged, either_of}
 use Rattle.grammar_rules.proofs.Same.{same_refl}
@@ -71,6 +71,15 @@ module _ {K A B : Type 0} where
   seen_merged refuses (takes b) = refl
   seen_merged refuses (faults k) = refl
   seen_merged refuses refuses = refl
+
+  -- a limit on both is one on each
+  pub merged_limited : (k : K) (room : Bool) (v : Verdict K A) (w : Verdict K B) → merged (limited k room v) (limited k room w) ≡ limited k room (merged v w)
+  merged_limited k true v w = refl
+  merged_limited k false (takes a) w = refl
+  merged_limited k false (faults j) w = refl
+  merged_limited k false refuses (takes b) = refl
+  merged_limited k false refuses (faults j) = refl
+  merged_limited k false refuses refuses = refl
 
   merged_left : (v : Verdict K A) (w : Verdict K B) (a : A) → v ≡ takes a → merged v w ≡ takes (inl a)
   merged_left v w a e = rw e refl

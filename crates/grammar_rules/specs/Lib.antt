@@ -10,3 +10,6 @@ pub mod WorkedExpressionReaders
 pub mod WorkedExpressions
 pub mod WorkedKeyedNumbers
 pub mod WorkedParsing
+pub mod WorkedSelecting
+pub mod WorkedSelectionReaders
+pub mod WorkedSelections

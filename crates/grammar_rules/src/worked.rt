@@ -2,3 +2,4 @@
 
 pub mod arithmetic;
 pub mod keyed;
+pub mod selections;
