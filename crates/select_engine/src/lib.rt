@@ -6,14 +6,12 @@ mod asked;
 mod code;
 mod content;
 mod job;
-mod memory;
 mod outcome;
 mod reply;
 
 pub use asked::{Asked, prepare};
 pub use code::Code;
 pub use job::{refuse, run_job};
-pub use memory::room;
 pub use outcome::{EngineError, Outcome};
 
 #[cfg(test)]

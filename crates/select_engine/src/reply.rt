@@ -3,11 +3,10 @@ ghost use Rattle.std.specs.Prelude.{◌≡◌, ◌+◌, ◌≤◌, ◌++◌, len
 
 use crate::code::{Code, message};
 use crate::content::{content_fault, is_passed_over};
-use crate::memory::room;
 use crate::outcome::Outcome;
 use event_frame::{Counts, FrameWriter};
 use line_window::Line;
-use select_ports::{Failed, FrameSink};
+use select_ports::{Failed, FrameSink, room};
 use std::alloc::{AllocError, Global};
 use std::marker::Model;
 

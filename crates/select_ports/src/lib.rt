@@ -5,6 +5,7 @@
 mod count;
 mod file_store;
 mod frame_sink;
+mod memory;
 mod memory_store;
 mod memory_streams;
 mod names;
@@ -20,6 +21,7 @@ mod tests;
 
 pub use file_store::FileStore;
 pub use frame_sink::{FrameSink, Plain};
+pub use memory::room;
 pub use memory_store::{MemObject, MemStore};
 pub use memory_streams::{MemSink, MemSource};
 pub use names::is_plain_name;

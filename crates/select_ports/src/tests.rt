@@ -41,6 +41,43 @@ fn shown(outcome: Result<Option<usize>, Failed>, buf: &[u8]) -> &[u8]
     }
 }
 
+/// The first of the objects that doesn't give these bytes, at most ten, or this word, at its place.
+fn first_not_read<S: Store>(store: &mut S, wanted: &[(&str, u64, &str)]) -> Option<usize> {
+    let mut buf = [0u8; 10];
+    for (index, (name, at, want)) in wanted.iter().enumerate() {
+        let outcome = open_and_read(store, name, *at, &mut buf);
+        if shown(outcome, &buf) != want.as_bytes() {
+            return Some(index);
+        }
+    }
+    None
+}
+
+/// The first read of at most four bytes that doesn't give these bytes, or this word.
+fn first_not_given<I: Source>(source: &mut I, wanted: &[&str]) -> Option<usize> {
+    let mut buf = [0u8; 4];
+    for (index, want) in wanted.iter().enumerate() {
+        let outcome = source.read(&mut buf).map(Some);
+        if shown(outcome, &buf) != want.as_bytes() {
+            return Some(index);
+        }
+    }
+    None
+}
+
+/// The first write that hasn't this outcome.
+fn first_not_written<O: Sink>(
+    sink: &mut O,
+    wanted: &[(&str, Result<usize, Failed>)],
+) -> Option<usize> {
+    for (index, (piece, want)) in wanted.iter().enumerate() {
+        if sink.write(piece.as_bytes()) != *want {
+            return Some(index);
+        }
+    }
+    None
+}
+
 fn object(alloc: Global, name: &str, bytes: &[u8]) -> Result<MemObject, Fail> {
     let name = String::from_str(alloc, name)?;
     let bytes = Vec::from_slice(alloc, bytes)?;
@@ -56,8 +93,7 @@ fn reads_a_store_in_memory(rt: HostRuntime) -> Result<(), Fail> {
     let lengths = Vec::from_array(alloc, [3, 1, 4])?;
     let fails = Vec::from_array(alloc, [3, 7])?;
     let mut store = MemStore::new(objects, lengths, fails);
-    let mut buf = [0u8; 8];
-    for (name, at, want) in [
+    let wanted = [
         ("a", 0, "abc"),
         ("a", 0, "failed"),
         ("a", 3, "d"),
@@ -66,10 +102,8 @@ fn reads_a_store_in_memory(rt: HostRuntime) -> Result<(), Fail> {
         ("a", 8, "ij"),
         ("a", 10, ""),
         ("b", 0, "missing"),
-    ] {
-        let outcome = open_and_read(&mut store, name, at, &mut buf);
-        assert_eq!(rt; shown(outcome, &buf), want.as_bytes(), "{name} at {at}");
-    }
+    ];
+    assert_eq!(rt; first_not_read(&mut store, &wanted), None);
     Ok(())
 }
 
@@ -80,24 +114,20 @@ fn reads_and_writes_in_memory(rt: HostRuntime) -> Result<(), Fail> {
     let lengths = Vec::from_array(alloc, [2, 1])?;
     let fails = Vec::from_array(alloc, [2])?;
     let mut source = MemSource::new(bytes, lengths, fails);
-    let mut buf = [0u8; 4];
-    for want in ["ab", "failed", "c", "d", "e", "f", "", ""] {
-        let outcome = source.read(&mut buf).map(Some);
-        assert_eq!(rt; shown(outcome, &buf), want.as_bytes());
-    }
+    let pieces = ["ab", "failed", "c", "d", "e", "f", "", ""];
+    assert_eq!(rt; first_not_given(&mut source, &pieces), None);
 
     let written = Vec::from_slice(alloc, b"x")?;
     let lengths = Vec::from_array(alloc, [1, 3])?;
     let fails = Vec::from_array(alloc, [2])?;
     let mut sink = MemSink::new(written, lengths, fails);
-    for (piece, want) in [
+    let pieces = [
         ("abc", Ok(1)),
         ("abc", Err(Failed)),
         ("abcdef", Ok(3)),
         ("gh", Ok(2)),
-    ] {
-        assert_eq!(rt; sink.write(piece.as_bytes()), want);
-    }
+    ];
+    assert_eq!(rt; first_not_written(&mut sink, &pieces), None);
     assert_eq!(rt; write_all(&mut sink, b"1234567"), Ok(()));
     assert_eq!(rt; sink.written(), b"xaabcgh1234567".as_slice());
     Ok(())
@@ -123,8 +153,7 @@ fn reads_files_of_a_folder(rt: HostRuntime) -> Result<(), Fail> {
 
     let mut store = FileStore::new(&rt, alloc, folder.as_str());
     let mut within = FileStore::new(&rt, alloc, inner.as_str());
-    let mut buf = [0u8; 10];
-    for (name, at, want) in [
+    let wanted = [
         ("inner/a.csv", 0, "id,name\n1,"),
         ("inner/a.csv", 10, "Ann\n"),
         ("inner/a.csv", 14, ""),
@@ -135,12 +164,12 @@ fn reads_files_of_a_folder(rt: HostRuntime) -> Result<(), Fail> {
         ("./beside", 0, "missing"),
         ("inner//a.csv", 0, "missing"),
         ("", 0, "missing"),
-    ] {
-        let outcome = open_and_read(&mut store, name, at, &mut buf);
-        assert_eq!(rt; shown(outcome, &buf), want.as_bytes(), "{name} at {at}");
-    }
-    let outcome = open_and_read(&mut within, "../beside", 0, &mut buf);
-    assert_eq!(rt; shown(outcome, &buf), b"missing".as_slice());
+    ];
+    assert_eq!(rt; first_not_read(&mut store, &wanted), None);
+    assert_eq!(rt;
+        first_not_read(&mut within, &[("../beside", 0, "missing")]),
+        None
+    );
     fs::remove_dir_all(&rt, &folder)?;
     Ok(())
 }
@@ -163,28 +192,22 @@ impl Read for Interrupted {
 
 #[test]
 fn reads_and_writes_by_std(rt: HostRuntime) -> Result<(), Fail> {
-    let mut buf = [0u8; 4];
     let mut source = StdSource::new(b"abcdef".as_slice());
-    for want in ["abcd", "ef", ""] {
-        let outcome = source.read(&mut buf).map(Some);
-        assert_eq!(rt; shown(outcome, &buf), want.as_bytes());
-    }
-    assert_eq!(rt;
-        StdSource::new(Interrupted { times: 2 }).read(&mut buf),
-        Ok(0)
-    );
+    let pieces = ["abcd", "ef", ""];
+    assert_eq!(rt; first_not_given(&mut source, &pieces), None);
+    let mut interrupted = StdSource::new(Interrupted { times: 2 });
+    assert_eq!(rt; first_not_given(&mut interrupted, &[""]), None);
 
     let mut room = [0u8; 3];
     {
         let mut sink = StdSink::new(room.as_mut_slice());
-        for (piece, want) in [
+        let pieces = [
             ("ab", Ok(2)),
             ("", Ok(0)),
             ("cd", Ok(1)),
             ("d", Err(Failed)),
-        ] {
-            assert_eq!(rt; sink.write(piece.as_bytes()), want);
-        }
+        ];
+        assert_eq!(rt; first_not_written(&mut sink, &pieces), None);
     }
     assert_eq!(rt; room.as_slice(), b"abc".as_slice());
     Ok(())

@@ -6,8 +6,7 @@ ghost use Rattle.select_tool.specs.Input.{IsReadFrom, most_of_body};
 ghost use Rattle.select_tool.specs.Replies.{CauseOf};
 
 use crate::trouble::Trouble;
-use select_engine::room;
-use select_ports::{Failed, Source};
+use select_ports::{Failed, Source, room};
 use select_request::LONGEST_BODY;
 use std::alloc::Global;
 

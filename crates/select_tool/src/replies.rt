@@ -12,8 +12,7 @@ use crate::lister::Lister;
 use crate::listing::Listing;
 use crate::trouble::Trouble;
 use event_frame::{FrameReader, stream_has_one_reading};
-use select_engine::room;
-use select_ports::{Failed, Sink, Source};
+use select_ports::{Failed, Sink, Source, room};
 use std::alloc::Global;
 
 /// The most bytes of an input that are read.
