@@ -2,7 +2,6 @@ pub mod Ahead
 pub mod Alternatives
 pub mod Answering
 pub mod AnyOrder
-pub mod AtMost
 pub mod Begun
 pub mod Choices
 pub mod Classes
@@ -38,5 +37,6 @@ pub mod WorkedExpressionProofs
 pub mod WorkedExpressionSteps
 pub mod WorkedKeyedProofs
 pub mod WorkedSelectionAnswers
+pub mod WorkedSelectionPrinting
 pub mod WorkedSelectionReads
 pub mod WorkedSelectionSteps

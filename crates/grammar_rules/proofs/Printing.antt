@@ -1,7 +1,8 @@
 -- What is printed is spelled: one law a combinator, for a law of printing over a tree.
-use Rattle.std.proofs.Common.{◌≡◌, ℕ, zero, suc, ◌-◌, nat_lt, Bool, true, false, List, [], ◌∷◌, ◌++◌, Option, Some, None, refl, sym, ap, ◌∙◌, subst, append_assoc, append-nil}
-use Rattle.grammar_rules.specs.Rules.{Rule, terminal, token, nothing, made, sequence, ◌&◌, preceded_by, followed_by, headed, either, one_of_two, optional, bounded, many, allowed, where_room}
-use Rattle.grammar_rules.specs.Counted.{Counted, given, both, joined_to, bounded_from, many_from, chain}
+use Rattle.std.proofs.Common.{◌≡◌, ℕ, zero, suc, ◌-◌, nat_lt, Bool, true, false, List, [], ◌∷◌, ◌++◌, Option, Some, None, refl, sym, ap, ◌∙◌, subst, append_assoc, append-nil, arith}
+use Rattle.std.proofs.lemmas.Bool.Decides.{nat_tests}
+use Rattle.grammar_rules.specs.Rules.{Rule, Verdict, takes, begun, terminal, token, nothing, made, sequence, ◌&◌, preceded_by, followed_by, headed, either, one_of_two, optional, bounded, many, allowed, where_room}
+use Rattle.grammar_rules.specs.Counted.{Counted, one_more, item, given, both, joined_to, bounded_from, many_from, chain}
 use Rattle.grammar_rules.specs.Spelled.{Prints, All, print_all}
 
 -- ---- a value and its text
@@ -35,6 +36,10 @@ module _ {T K : Type 0} where
     pub spelled-sequence : {B : Type 0} (H : A → Rule T K B) (b : B) (us : List T) → (H a).Spells b us → (sequence G H).Spells b (ts ++ us)
     spelled-sequence H b us v = record { value = a; left = ts; right = us; joined = refl; whole = w; after = v }
 
+  -- behind a terminal, whose value tells what follows
+  pub spelled-begun : {A B : Type 0} (look : T → Verdict K A) (H : A → Rule T K B) (t : T) (a : A) (b : B) (us : List T) → look t ≡ takes a → (H a).Spells b us → (begun look H).Spells b (t ∷ us)
+  spelled-begun look H t a b us e v = record { value = a; left = t ∷ []; right = us; joined = refl; whole = e; after = v }
+
   pub spelled-none : {A : Type 0} (G : Rule T K A) → (optional G).Spells None []
   spelled-none G = (false, (refl, refl))
 
@@ -63,6 +68,20 @@ module _ {T K : Type 0} where
     spelled-many_snoc front ts v = snoc_cases v.0 front ts v.1
 
 -- ---- with counts
+
+-- a value, where one more may come
+pub spelled-one_more : {T K A : Type 0} (k : K) (look : T → Verdict K A) (t : T) (a : A) (n m : ℕ) → n ≡ suc m → look t ≡ takes a → (one_more k look n).Spells (a, m) (t ∷ [])
+spelled-one_more k look t a n m e f =
+    let q : nat_lt 0 n ≡ true = grind (arith, nat_tests) in
+    let p : n - 1 ≡ m = omega (arith, e) in
+    (a, ap (λ l. (a, l)) p, rw (q, f) refl)
+
+-- an item, where there is room for it
+pub spelled-room : {S T K A : Type 0} (over : T → Option K) (G : Counted S T K A) (most left : ℕ) (n m : S) (a : A) (ts : List T) → most ≡ suc left → (G n).Spells (a, m) ts → (item over G (most, n)).Spells (a, (left, m)) ts
+spelled-room over G most left n m a ts e w =
+    let q : nat_lt 0 most ≡ true = grind (arith, nat_tests) in
+    let p : most - 1 ≡ left = omega (arith, e) in
+    rw q ((a, m), ap (λ l. (a, (l, m))) p, w)
 
 module _ {S T K : Type 0} where
   pub spelled-both : {A B : Type 0} (G : Counted S T K A) (H : Counted S T K B) (n m l : S) (a : A) (b : B) (ts us : List T) → (G n).Spells (a, m) ts → (H m).Spells (b, l) us → (both G H n).Spells ((a, b), l) (ts ++ us)

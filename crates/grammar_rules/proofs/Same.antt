@@ -30,48 +30,15 @@ same-sequence G G' H H' g h = record {
   back = within-sequence G' G H' H g.back (λ a. (h a).back);
 }
 
-pub same-alternatives : {T K A I : Type 0} (G H : I → Rule T K A) → ((i : I) → Same (G i) (H i)) → Same (alternatives G) (alternatives H)
-same-alternatives G H s = record {
-  there = within-alternatives G H (λ i. (s i).there);
-  back = within-alternatives H G (λ i. (s i).back);
-}
-
 pub same-either : {T K A : Type 0} (G G' H H' : Rule T K A) → Same G G' → Same H H' → Same (either G H) (either G' H')
 same-either G G' H H' g h = record {
   there = within-either G G' H H' g.there h.there;
   back = within-either G' G H' H g.back h.back;
 }
 
-pub same-many : {T K A : Type 0} (G H : Rule T K A) → Same G H → Same (many G) (many H)
-same-many G H s = record { there = within-many G H s.there; back = within-many H G s.back }
-
-within-bounded_from : {S T K A : Type 0} (G H : Counted S T K A) → ((n : S) → Within (G n) (H n)) → (k : ℕ) (n : S) → Within (bounded_from k G n) (bounded_from k H n)
-within-bounded_from G H w zero n = Within_refl (nothing ([], n))
-within-bounded_from G H w (suc k) n =
-    within-either (sequence (G n) (λ p. made (joined_to p.0) (bounded_from k G p.1))) (sequence (H n) (λ p. made (joined_to p.0) (bounded_from k H p.1))) (nothing ([], n)) (nothing ([], n))
-    (within-sequence (G n) (H n) (λ p. made (joined_to p.0) (bounded_from k G p.1)) (λ p. made (joined_to p.0) (bounded_from k H p.1)) (w n)
-    (λ p. within-made (joined_to p.0) (bounded_from k G p.1) (bounded_from k H p.1) (within-bounded_from G H w k p.1)))
-    (Within_refl (nothing ([], n)))
-
-pub same-many_from : {S T K A : Type 0} (G H : Counted S T K A) → ((n : S) → Same (G n) (H n)) → (n : S) → Same (many_from G n) (many_from H n)
-same-many_from G H s n = record {
-  there = within-alternatives (λ k. bounded_from k G n) (λ k. bounded_from k H n) (λ k. within-bounded_from G H (λ m. (s m).there) k n);
-  back = within-alternatives (λ k. bounded_from k H n) (λ k. bounded_from k G n) (λ k. within-bounded_from H G (λ m. (s m).back) k n);
-}
-
 -- ---- what carries over
 
 module _ {T K A : Type 0} (G H : Rule T K A) (s : Same G H) where
-  pub answers-same : (ts : List T) (x : Answer K A) → Answers G ts x → Answers H ts x
-  answers-same ts (value a) w = s.there.spells a ts w
-  answers-same ts (refusal None place) w = record {
-    within = w.within;
-    front = s.there.front fits _ w.front;
-    refused = λ l last f. w.refused l last (s.back.front last _ f);
-    unspelled = λ a v. w.unspelled a (s.back.spells a ts v);
-  }
-  answers-same ts (refusal (Some k) place) w = record { within = w.within; front = s.there.front (faulty k) _ w.front }
-
   closed-same : Closed G → Closed H
   closed-same g = record {
     nil = s.there.front fits [] g.nil;

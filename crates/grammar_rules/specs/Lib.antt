@@ -11,5 +11,6 @@ pub mod WorkedExpressions
 pub mod WorkedKeyedNumbers
 pub mod WorkedParsing
 pub mod WorkedSelecting
+pub mod WorkedSelectionPrinted
 pub mod WorkedSelectionReaders
 pub mod WorkedSelections

@@ -142,11 +142,6 @@ bounded (suc n) G end = either (headed G (bounded n G end)) (nothing [])
 abbrev pub many : {T K A : Type 0} → Rule T K A → Rule T K (List A)
 many G = alternatives (λ n. bounded n G (nothing []))
 
--- a repetition of at most n times G, where a symbol that passes the test and begins one more has
--- this fault
-abbrev pub at_most : {T K A : Type 0} → ℕ → K → (T → Bool) → Rule T K A → Rule T K (List A)
-at_most n k test G = bounded n G (either (fault k test) (nothing []))
-
 -- the rule where the test is passed
 abbrev pub allowed : {T K A : Type 0} → Bool → Rule T K A → Rule T K A
 allowed true G = G

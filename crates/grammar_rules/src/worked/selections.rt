@@ -5,6 +5,8 @@ ghost use Rattle.grammar_rules.specs.Places.{Answer, AnswersNamed, named_first};
 ghost use Rattle.grammar_rules.specs.Readers.{starts};
 ghost use Rattle.grammar_rules.specs.WorkedSelections.{Fault, class_of, number_of, of, star_name, selection};
 ghost use Rattle.grammar_rules.specs.WorkedSelectionReaders.{read_number, read_name, read_head, read_number_rest, read_name_rest, read_item, read_listed, read_items, read_selection};
+ghost use Rattle.grammar_rules.specs.Spelled.{Prints};
+ghost use Rattle.grammar_rules.specs.WorkedSelectionPrinted.{HasText, print_selection};
 ghost use Rattle.grammar_rules.specs.WorkedSelecting.{Gives, GivesCounted, GivesHead, NumberAt, NameAt, HeadAt, IsOver, TakesAll, answer_of, refused_at, error_of};
 
 use crate::cursor::Cursor;
@@ -117,6 +119,11 @@ pub fn read_selection_of(alloc: Global, words: &[Word]) -> Result<Selection, Sel
         Err(stop) => Err(stopped(stop, &cursor, at)),
     }
 }
+
+/// A law: each selection that has a text is spelled by the words that are printed for it.
+pub fn printed_selections_are_spelled()
+    ensures { Prints (selection MAX_ITEMS MAX_VALUES) (HasText MAX_ITEMS MAX_VALUES) print_selection }
+{}
 
 /// The error of a word that is refused.
 fn refused(words: &Cursor<'_, Word>, at: usize) -> SelectionError
