@@ -42,10 +42,6 @@ pub within-either : {T K A : Type 0} (G G' H H' : Rule T K A) → Within G G' �
 within-either G G' H H' g h =
     within-alternatives (one_of_two G H) (one_of_two G' H') (elim [ true ↦ g | false ↦ h ])
 
-pub within-optional : {T K A : Type 0} (G H : Rule T K A) → Within G H → Within (optional G) (optional H)
-within-optional {A = A} G H w =
-    within-either (made Some G) (made Some H) (nothing None) (nothing None) (within-made Some G H w) (Within_refl (nothing None))
-
 pub within-pair : {T K A B : Type 0} (G G' : Rule T K A) (H H' : Rule T K B) → Within G G' → Within H H' → Within (G & H) (G' & H')
 within-pair G G' H H' g h =
     within-sequence G G' (λ a. made (λ b. (a, b)) H) (λ a. made (λ b. (a, b)) H') g (λ a. within-made (λ b. (a, b)) H H' h)

@@ -157,10 +157,6 @@ limits-either G G' H H' g h =
     let both : (b : Bool) → Limits (one_of_two G H b) (one_of_two G' H' b) = elim [ true ↦ g | false ↦ h ] in
     limits-alternatives (one_of_two G H) (one_of_two G' H') (λ b. b) both (λ b. b) both
 
-pub limits-optional : {T K A : Type 0} (G H : Rule T K A) → Limits G H → Limits (optional G) (optional H)
-limits-optional G H l =
-    limits-either (made Some G) (made Some H) (nothing None) (nothing None) (limits-made Some G H l) (limits_refl (nothing None))
-
 pub limits-pair : {T K A B : Type 0} (G G' : Rule T K A) (H H' : Rule T K B) → Limits G G' → Limits H H' → Limits (G & H) (G' & H')
 limits-pair G G' H H' g h =
     limits-sequence G G' (λ a. made (λ b. (a, b)) H) (λ a. made (λ b. (a, b)) H') g (λ a. limits-made (λ b. (a, b)) H H' h)
