@@ -1,6 +1,6 @@
 -- The laws of alternatives: of members that begin apart, and of a growing family.
 use Rattle.std.proofs.Common.{◌≡◌, ℕ, zero, suc, ◌+◌, true, List, [], ◌∷◌, ◌++◌, refl, subst, inl, inr, zero-add, suc-add, add_comm}
-use Rattle.grammar_rules.specs.Rules.{Rule, Last, fits, faulty, alternatives}
+use Rattle.grammar_rules.specs.Rules.{Rule, Last, fits, faulty, alternatives, Within}
 use Rattle.grammar_rules.proofs.Clear.{Closed, Sight, Clear, fault-nil}
 
 pub cons_not_nil : {T : Type 0} (pre : List T) (t : T) (r : List T) → pre ++ t ∷ r ≡ [] → ⊥
@@ -79,11 +79,6 @@ module _ {T K A I : Type 0} (G : I → Rule T K A) (each : I → Sight T) (s : S
     single = λ a b ts w v. single_member w.0 v.0 a b ts w.1 v.1;
     last = last_alternatives;
   }
-
--- all that the first rule says the second says too
-pub record Within {T K A : Type 0} (G H : Rule T K A) : Type 0 where
-  pub spells : (a : A) (ts : List T) → G.Spells a ts → H.Spells a ts
-  pub front : (m : Last K) (ts : List T) → G.Front m ts → H.Front m ts
 
 pub Within_refl : {T K A : Type 0} (G : Rule T K A) → Within G G
 Within_refl G = record { spells = λ a ts w. w; front = λ m ts f. f }

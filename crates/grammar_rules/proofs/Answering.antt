@@ -1,8 +1,8 @@
 -- A right outcome gives the text's value or its first fault with the exact place; there is one answer.
-use Rattle.std.proofs.Common.{◌≡◌, ℕ, zero, suc, ◌+◌, ◌-◌, ◌<◌, ◌≤◌, List, [], ◌∷◌, ◌++◌, length, take, Some, None, refl, sym, ap, ◌∙◌, subst, append_assoc, append-nil, arith, length-append}
+use Rattle.std.proofs.Common.{◌≡◌, ℕ, zero, suc, ◌+◌, ◌-◌, ◌<◌, ◌≤◌, List, [], ◌∷◌, ◌++◌, length, take, drop, Option, Some, None, refl, sym, ap, ◌∙◌, subst, append_assoc, append-nil, arith, length-append}
 use Rattle.grammar_rules.specs.Rules.{Rule, Last, fits, faulty}
-use Rattle.grammar_rules.specs.Readers.{Outcome, found, failed, answer}
-use Rattle.grammar_rules.specs.Places.{RefusedThere, FaultyThere, Answers}
+use Rattle.grammar_rules.specs.Readers.{Outcome, found, failed, answer, answer_named}
+use Rattle.grammar_rules.specs.Places.{RefusedThere, FaultyThere, Answer, value, refusal, Answers, named_first, AnswersNamed}
 use Rattle.grammar_rules.proofs.Clear.{Closed}
 use Rattle.grammar_rules.proofs.Right.{Stops, Right}
 
@@ -61,6 +61,27 @@ module _ {T K A : Type 0} (G : Rule T K A) (g : Closed G) where
   answers ts (failed (Some k) left) w =
       let e : ts ≡ w.pre ++ w.at ∷ w.behind = w.is ∙ ap (λ l. w.pre ++ l) w.stands in
       rw (e, w.stands) (faulty_place k w.pre w.at w.behind w.front)
+
+-- what is left stands behind as many symbols
+pub left_over : {T : Type 0} (pre left : List T) → drop (length (pre ++ left) - length left) (pre ++ left) ≡ left
+left_over [] left = let z : length left - length left ≡ 0 = omega arith in rw z refl
+left_over (s ∷ pre) left =
+    let n = length-append pre left in
+    let z : suc (length (pre ++ left)) - length left ≡ suc (length (pre ++ left) - length left) = omega arith in
+    rw z (left_over pre left)
+
+module _ {T K A : Type 0} (G : Rule T K A) (g : Closed G) (name : T → Option K) (ts : List T) where
+  named_there : (pre left : List T) → ts ≡ pre ++ left → named_first name (drop (length ts - length left) ts) ≡ named_first name left
+  named_there pre left e = ap (named_first name) (ap (λ l. drop (length l - length left) l) e ∙ left_over pre left)
+
+  -- a right outcome gives the answer whose refusals have names
+  pub answers_named : (o : Outcome T K A) → Right G ts o → AnswersNamed name G ts (answer_named name (length ts) o)
+  answers_named (found a []) w = (value a, answers G g ts (found a []) w, refl)
+  answers_named (found a (t ∷ left)) w =
+      (answer (length ts) (found a (t ∷ left)), answers G g ts (found a (t ∷ left)) w, ap (λ k. refusal k (length ts - length (t ∷ left))) (named_there w.pre (t ∷ left) w.is))
+  answers_named (failed None left) w =
+      (answer (length ts) (failed None left), answers G g ts (failed None left) w, ap (λ k. refusal k (length ts - length left)) (named_there w.pre left w.is))
+  answers_named (failed (Some k) left) w = (answer (length ts) (failed (Some k) left), answers G g ts (failed (Some k) left) w, refl)
 
 -- a longer front of a list is the shorter one and more
 pub longer_front : {T : Type 0} (p q : ℕ) (ts : List T) → p < q → q ≤ length ts → (t : T) × (r : List T) × (take q ts ≡ take p ts ++ t ∷ r)

@@ -1,10 +1,10 @@
 -- All members in any order, and the steps of a loop that reads them.
 use Rattle.std.proofs.Common.{◌≡◌, ℕ, zero, suc, ◌+◌, ◌<◌, ◌||◌, ◌&&◌, Bool, true, false, List, [], ◌∷◌, ◌++◌, length, Option, is_some, refl, ap, inl, inr, append_assoc, append-nil, arith}
-use Rattle.grammar_rules.specs.Rules.{Rule, Last, nothing, made, sequence, one_of_two, member, without, some_members, members}
+use Rattle.grammar_rules.specs.Rules.{Rule, Last, nothing, made, sequence, one_of_two, member, without, some_members, members, Within}
 use Rattle.grammar_rules.specs.Readers.{Outcome, found, failed, and_then, read_made, starts, chosen, is_free, read_member, read_some_members, read_members}
 use Rattle.grammar_rules.proofs.Lists.{or_left, or_right}
 use Rattle.grammar_rules.proofs.Clear.{Sight, Clear}
-use Rattle.grammar_rules.proofs.Alternatives.{cons_not_nil, Within, Within_refl, clear-growing}
+use Rattle.grammar_rules.proofs.Alternatives.{cons_not_nil, Within_refl, clear-growing}
 use Rattle.grammar_rules.proofs.Sequences.{Apart, sequence_sight, clear-sequence}
 use Rattle.grammar_rules.proofs.Terminals.{nothing_sight, clear-nothing, clear-made, Sees, clear-wider}
 use Rattle.grammar_rules.proofs.Right.{Right, right-nothing, right-made, right-sequence}

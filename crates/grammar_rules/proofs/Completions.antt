@@ -66,10 +66,6 @@ pub completes-either : {T K A : Type 0} (G G' H H' : Rule T K A) → Completes G
 completes-either G G' H H' g h nil =
     completes-alternatives (one_of_two G H) (one_of_two G' H') (λ b. b) (elim [ true ↦ g | false ↦ h ]) true nil
 
-pub completes-optional : {T K A : Type 0} (G H : Rule T K A) → Completes G H → G.Front fits [] → Completes (optional G) (optional H)
-completes-optional G H c nil =
-    completes-either (made Some G) (made Some H) (nothing None) (nothing None) (completes-made Some G H c) (completes-nothing None) nil
-
 pub completes-pair : {T K A B : Type 0} (G G' : Rule T K A) (H H' : Rule T K B) → Completes G G' → Completes H H' → H.Front fits [] → Completes (G & H) (G' & H')
 completes-pair G G' H H' g h nil =
     completes-sequence G G' (λ a. made (λ b. (a, b)) H) (λ a. made (λ b. (a, b)) H') g (λ a. completes-made (λ b. (a, b)) H H' h) (λ a. nil)

@@ -1,7 +1,7 @@
 -- A rule that says no more than another, part by part: so a longer depth says no less.
 use Rattle.std.proofs.Common.{ℕ, zero, suc, true, false, List, [], ◌∷◌, Some, None, inl, inr}
-use Rattle.grammar_rules.specs.Rules.{Rule, Last, nothing, made, sequence, alternatives, either, one_of_two, optional, headed, ◌&◌, followed_by, preceded_by, bounded, many}
-use Rattle.grammar_rules.proofs.Alternatives.{Within, Within_refl}
+use Rattle.grammar_rules.specs.Rules.{Rule, Last, nothing, made, sequence, alternatives, either, one_of_two, optional, headed, ◌&◌, followed_by, preceded_by, bounded, many, Within}
+use Rattle.grammar_rules.proofs.Alternatives.{Within_refl}
 
 pub within-made : {T K A B : Type 0} (f : A → B) (G H : Rule T K A) → Within G H → Within (made f G) (made f H)
 within-made f G H w = record {
@@ -41,10 +41,6 @@ within-member G i = record {
 pub within-either : {T K A : Type 0} (G G' H H' : Rule T K A) → Within G G' → Within H H' → Within (either G H) (either G' H')
 within-either G G' H H' g h =
     within-alternatives (one_of_two G H) (one_of_two G' H') (elim [ true ↦ g | false ↦ h ])
-
-pub within-optional : {T K A : Type 0} (G H : Rule T K A) → Within G H → Within (optional G) (optional H)
-within-optional {A = A} G H w =
-    within-either (made Some G) (made Some H) (nothing None) (nothing None) (within-made Some G H w) (Within_refl (nothing None))
 
 pub within-pair : {T K A B : Type 0} (G G' : Rule T K A) (H H' : Rule T K B) → Within G G' → Within H H' → Within (G & H) (G' & H')
 within-pair G G' H H' g h =

@@ -1,9 +1,9 @@
 -- An outcome that is right for all members of a growing family from one on is right for the family.
 use Rattle.std.proofs.Common.{◌≡◌, ℕ, suc, ◌+◌, List, ◌∷◌, ◌++◌, Some, None, sym, ◌∙◌, subst, inl, inr}
 use mathlib.Core.List.{append_cancel_right}
-use Rattle.grammar_rules.specs.Rules.{Rule, alternatives}
+use Rattle.grammar_rules.specs.Rules.{Rule, alternatives, Within}
 use Rattle.grammar_rules.specs.Readers.{Outcome, found, failed}
-use Rattle.grammar_rules.proofs.Alternatives.{cons_not_nil, Within, to_sum_right}
+use Rattle.grammar_rules.proofs.Alternatives.{cons_not_nil, to_sum_right}
 use Rattle.grammar_rules.proofs.Right.{Stops, Right}
 
 module _ {T K A : Type 0} (G : ℕ → Rule T K A) (grows : (n : ℕ) → Within (G n) (G (suc n))) (ts : List T) (n : ℕ) where

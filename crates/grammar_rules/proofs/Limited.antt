@@ -1,8 +1,8 @@
 -- Rules with limits, part by part, and what their answers say of the rules without.
 use Rattle.std.proofs.Common.{◌≡◌, ℕ, zero, suc, ◌+◌, ◌⊎◌, Bool, true, false, List, [], ◌∷◌, ◌++◌, Some, None, refl, sym, ap, ◌∙◌, inl, inr, append_assoc, if◌then◌else◌}
-use Rattle.grammar_rules.specs.Rules.{Rule, Last, fits, faulty, takes, faults, refuses, nothing, made, sequence, alternatives, either, one_of_two, optional, headed, ◌&◌, bounded, many, fault, MeetsFault, Limits}
+use Rattle.grammar_rules.specs.Rules.{Rule, Last, fits, faulty, takes, faults, refuses, nothing, made, sequence, alternatives, either, one_of_two, optional, headed, ◌&◌, bounded, many, fault, MeetsFault, Limits, Within}
 use Rattle.grammar_rules.proofs.Clear.{Closed}
-use Rattle.grammar_rules.proofs.Alternatives.{Within, to_sum_right}
+use Rattle.grammar_rules.proofs.Alternatives.{to_sum_right}
 
 pub limits_refl : {T K A : Type 0} (G : Rule T K A) → Limits G G
 limits_refl G = record { spells = λ a ts w. w; front = λ ts f. f; spelled = λ a ts w. inl w; fronted = λ m ts f. inl f }
@@ -156,10 +156,6 @@ pub limits-either : {T K A : Type 0} (G G' H H' : Rule T K A) → Limits G G' �
 limits-either G G' H H' g h =
     let both : (b : Bool) → Limits (one_of_two G H b) (one_of_two G' H' b) = elim [ true ↦ g | false ↦ h ] in
     limits-alternatives (one_of_two G H) (one_of_two G' H') (λ b. b) both (λ b. b) both
-
-pub limits-optional : {T K A : Type 0} (G H : Rule T K A) → Limits G H → Limits (optional G) (optional H)
-limits-optional G H l =
-    limits-either (made Some G) (made Some H) (nothing None) (nothing None) (limits-made Some G H l) (limits_refl (nothing None))
 
 pub limits-pair : {T K A B : Type 0} (G G' : Rule T K A) (H H' : Rule T K B) → Limits G G' → Limits H H' → Limits (G & H) (G' & H')
 limits-pair G G' H H' g h =

@@ -1,7 +1,7 @@
 -- A rule that one symbol of lookahead can tell gives each text at most one answer.
-use Rattle.std.proofs.Common.{◌≡◌, ℕ, zero, suc, ◌+◌, ◌<◌, ◌≤◌, List, [], ◌∷◌, length, take, Some, None, refl, sym, ap, subst, append-nil, arith, take_all, le_refl}
+use Rattle.std.proofs.Common.{◌≡◌, ℕ, zero, suc, ◌+◌, ◌<◌, ◌≤◌, List, [], ◌∷◌, length, take, Some, None, refl, sym, ap, subst, append-nil, arith, Option, ◌∙◌, take_all, le_refl}
 use Rattle.grammar_rules.specs.Rules.{Rule, Last, fits, faulty}
-use Rattle.grammar_rules.specs.Places.{RefusedThere, FaultyThere, Answer, value, refusal, Answers}
+use Rattle.grammar_rules.specs.Places.{RefusedThere, FaultyThere, Answer, value, refusal, Answers, named, AnswersNamed}
 use Rattle.grammar_rules.proofs.Clear.{Sight, Clear}
 use Rattle.grammar_rules.proofs.Answering.{longer_front}
 
@@ -97,3 +97,7 @@ module _ {T K A : Type 0} (G : Rule T K A) (s : Sight T) (g : Clear G s) (ts : L
   one_answer (refusal (Some k) p) (value b) w v = absurd (no_text_too b k p v w (order (p + 1) (length ts)))
   one_answer (refusal (Some k) p) (refusal None q) w v = absurd (no_fault_too q k p v w (order (p + 1) q))
   one_answer (refusal (Some k) p) (refusal (Some j) q) w v = one_fault k p j q w v (one_fault_place k p j q w v (order p q))
+
+  -- the same where refusals have names
+  pub one_named_answer : (name : T → Option K) (x y : Answer K A) → AnswersNamed name G ts x → AnswersNamed name G ts y → x ≡ y
+  one_named_answer name x y w v = sym w.2 ∙ (ap (named name ts) (one_answer w.0 v.0 w.1 v.1) ∙ v.2)

@@ -39,7 +39,7 @@ and_false true = refl
 and_false false = refl
 
 module _ {T : Type 0} (s e : Sight T) (wants : s.null ≡ false) where
-  headed_first : (x : T) → ((s.first x || (s.null && (wide_sight s e).first x)) || false) ≡ true → s.first x ≡ true
+  pub headed_first : (x : T) → ((s.first x || (s.null && (wide_sight s e).first x)) || false) ≡ true → s.first x ≡ true
   headed_first x q =
       elim (or_cases (s.first x || (s.null && (wide_sight s e).first x)) false q) [
         | inl p ↦ elim (or_cases (s.first x) _ p) [
@@ -63,7 +63,7 @@ module _ {T : Type 0} (s e : Sight T) (wants : s.null ≡ false) where
         | inr p ↦ or_left (s.first x || s.more x) _ (or_left (s.first x) (s.more x) (headed_first x (and_second ((s.null && true) || true) _ p)))
       ]
 
-  sees_repeat : Sees (either_sight (sequence_sight s (wide_sight s e)) nothing_sight) (repeat_sight s e)
+  pub sees_repeat : Sees (either_sight (sequence_sight s (wide_sight s e)) nothing_sight) (repeat_sight s e)
   sees_repeat = record {
     first = headed_first;
     null = λ q. refl;

@@ -1,5 +1,5 @@
 -- What a text is to a grammar: a text of a value, or a text with a first fault at its place.
-use Rattle.std.specs.Prelude.{ℕ, ◌+◌, ◌<◌, ◌≤◌, List, length, take, Option, Some, None}
+use Rattle.std.specs.Prelude.{◌≡◌, ℕ, ◌+◌, ◌<◌, ◌≤◌, List, [], ◌∷◌, length, take, drop, Option, Some, None}
 use Rattle.grammar_rules.specs.Rules.{Rule, Last, fits, faulty}
 
 -- the first symbol with which the symbols so far are no front stands at this place, or the symbols end
@@ -29,3 +29,18 @@ pub data Answer (K A : Type 0) : Type 0 where
 abbrev pub Answers : {T K A : Type 0} → Rule T K A → List T → Answer K A → Type 0
 Answers G ts (value a) = G.Spells a ts
 Answers G ts (refusal e place) = FirstFault G ts e place
+
+-- the name of the first symbol's fault, where it has one
+abbrev pub named_first : {T K : Type 0} → (T → Option K) → List T → Option K
+named_first name [] = None
+named_first name (t ∷ ts) = name t
+
+-- the answer, where a refusal at a symbol that has a name is told by that name
+abbrev pub named : {T K A : Type 0} → (T → Option K) → List T → Answer K A → Answer K A
+named name ts (value a) = value a
+named name ts (refusal None place) = refusal (named_first name (drop place ts)) place
+named name ts (refusal (Some k) place) = refusal (Some k) place
+
+-- the answer is what the grammar says of ts, where a refusal at a symbol that has a name is told by that name
+abbrev pub AnswersNamed : {T K A : Type 0} → (T → Option K) → Rule T K A → List T → Answer K A → Type 0
+AnswersNamed {K = K} {A = A} name G ts y = (x : Answer K A) × Answers G ts x × (named name ts x ≡ y)

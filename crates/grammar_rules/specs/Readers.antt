@@ -1,7 +1,7 @@
 -- What a reader with one symbol of lookahead answers, and the readers that mirror the rules.
 use Rattle.std.specs.Prelude.{ℕ, zero, suc, Bool, true, false, List, [], ◌∷◌, length, drop, ◌-◌, Option, Some, None}
-use Rattle.grammar_rules.specs.Places.{Answer, value, refusal}
-use Rattle.grammar_rules.specs.Rules.{Verdict, takes, faults, refuses, without}
+use Rattle.grammar_rules.specs.Places.{Answer, value, refusal, named_first}
+use Rattle.grammar_rules.specs.Rules.{Verdict, takes, faults, refuses, told, without}
 
 -- a value and what is left after its text; or a failure at what is left: the first symbol there has
 -- this fault, or at None it is refused or missing
@@ -78,6 +78,23 @@ read_either test read other ts = chosen (starts test ts) (read ts) (other ts)
 abbrev pub read_optional : {T K A : Type 0} → (T → Bool) → (List T → Outcome T K A) → List T → Outcome T K (Option A)
 read_optional test read ts = chosen (starts test ts) (read_made Some (read ts)) (found None ts)
 
+-- the outcome behind a terminal, whose value tells what follows
+abbrev pub read_begun : {T K A B : Type 0} → (T → Verdict K A) → (A → List T → Outcome T K B) → List T → Outcome T K B
+read_begun look next ts = and_then (read_terminal look ts) next
+
+-- the outcome where there is room, else the fault of the first symbol
+abbrev pub read_where_room : {T K A : Type 0} → Bool → (T → Option K) → (List T → Outcome T K A) → List T → Outcome T K A
+read_where_room room over read ts = chosen room (read ts) (read_terminal (λ t. told (over t)) ts)
+
+-- the second outcome, unless the first one found a value
+abbrev pub unless_found : {T K A : Type 0} → Outcome T K A → Outcome T K A → Outcome T K A
+unless_found (found a left) o = found a left
+unless_found (failed e left) o = o
+
+-- the outcome of an alternative of two, of which the second is tried ahead
+abbrev pub read_ahead : {T K A : Type 0} → (List T → Outcome T K A) → (List T → Outcome T K A) → List T → Outcome T K A
+read_ahead read ahead ts = unless_found (ahead ts) (read ts)
+
 -- up to n times, while a symbol passes the test
 abbrev pub read_bounded : {T K A : Type 0} → ℕ → (T → Bool) → (List T → Outcome T K A) → (List T → Outcome T K (List A)) → List T → Outcome T K (List A)
 read_bounded zero test read end ts = end ts
@@ -123,3 +140,10 @@ abbrev pub answer : {T K A : Type 0} → ℕ → Outcome T K A → Answer K A
 answer size (found a []) = value a
 answer size (found a (t ∷ left)) = refusal None (size - length (t ∷ left))
 answer size (failed e left) = refusal e (size - length left)
+
+-- the same where a refusal at a symbol that has a name is told by that name
+abbrev pub answer_named : {T K A : Type 0} → (T → Option K) → ℕ → Outcome T K A → Answer K A
+answer_named name size (found a []) = value a
+answer_named name size (found a (t ∷ left)) = refusal (name t) (size - length (t ∷ left))
+answer_named name size (failed None left) = refusal (named_first name left) (size - length left)
+answer_named name size (failed (Some k) left) = refusal (Some k) (size - length left)

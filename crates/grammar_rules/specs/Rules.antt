@@ -109,6 +109,26 @@ either G H = alternatives (one_of_two G H)
 abbrev pub optional : {T K A : Type 0} → Rule T K A → Rule T K (Option A)
 optional G = either (made Some G) (nothing None)
 
+-- a choice that begins with a terminal, whose value tells what follows
+abbrev pub begun : {T K A B : Type 0} → (T → Verdict K A) → (A → Rule T K B) → Rule T K B
+begun look H = sequence (terminal look) H
+
+-- a symbol that is taken has this fault where there is no room for it; a fault that it has goes before
+abbrev pub limited : {K A : Type 0} → K → Bool → Verdict K A → Verdict K A
+limited k true v = v
+limited k false (takes a) = faults k
+limited k false (faults j) = faults j
+limited k false refuses = refuses
+
+-- the verdict on a symbol that has this fault
+abbrev pub told : {K A : Type 0} → Option K → Verdict K A
+told None = refuses
+told (Some k) = faults k
+
+-- the rule where there is room for it; else the symbol that would begin it has the fault that `over` tells
+abbrev pub where_room : {T K A : Type 0} → Bool → (T → Option K) → Rule T K A → Rule T K A
+where_room room over G = one_of_two G (terminal (λ t. told (over t))) room
+
 -- one after the other, for the list of the first one's value and the second one's
 abbrev pub headed : {T K A : Type 0} → Rule T K A → Rule T K (List A) → Rule T K (List A)
 headed G H = sequence G (λ a. made (λ rest. a ∷ rest) H)
@@ -121,11 +141,6 @@ bounded (suc n) G end = either (headed G (bounded n G end)) (nothing [])
 -- a repetition: any number of times G
 abbrev pub many : {T K A : Type 0} → Rule T K A → Rule T K (List A)
 many G = alternatives (λ n. bounded n G (nothing []))
-
--- a repetition of at most n times G, where a symbol that passes the test and begins one more has
--- this fault
-abbrev pub at_most : {T K A : Type 0} → ℕ → K → (T → Bool) → Rule T K A → Rule T K (List A)
-at_most n k test G = bounded n G (either (fault k test) (nothing []))
 
 -- the rule where the test is passed
 abbrev pub allowed : {T K A : Type 0} → Bool → Rule T K A → Rule T K A
@@ -150,6 +165,16 @@ some_members same G (suc n) free =
 -- the free members in any order, each at most once
 abbrev pub members : {T K A I : Type 0} → (I → I → Bool) → (I → Rule T K A) → (I → Bool) → Rule T K (List (I × A))
 members same G free = alternatives (λ n. some_members same G n free)
+
+-- the second rule says all that the first one says
+pub record Within {T K A : Type 0} (G H : Rule T K A) : Type 0 where
+  pub spells : (a : A) (ts : List T) → G.Spells a ts → H.Spells a ts
+  pub front : (last : Last K) (ts : List T) → G.Front last ts → H.Front last ts
+
+-- two rules say the same
+pub record Same {T K A : Type 0} (G H : Rule T K A) : Type 0 where
+  pub there : Within G H
+  pub back : Within H G
 
 -- the first rule's texts are texts of the second, and each of its fronts begins a text of the second:
 -- where a rule completes itself, a front is exactly what begins a text

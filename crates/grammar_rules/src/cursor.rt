@@ -28,6 +28,13 @@ impl<'t, T> Cursor<'t, T> {
         Cursor { left: symbols }
     }
 
+    /// Another cursor at the same symbol.
+    pub fn again(&self) -> Cursor<'t, T>
+        ensures { result ≡ self.now }
+    {
+        Cursor { left: self.left }
+    }
+
     /// How many symbols are left.
     pub fn len(&self) -> usize
         ensures { result ≡ length self.now }

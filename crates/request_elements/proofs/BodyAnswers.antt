@@ -1,27 +1,22 @@
 -- What the readers' outcome says of a body, in the grammar's words.
-use Rattle.std.proofs.Common.{◌≡◌, ℕ, suc, ◌-◌, List, [], ◌∷◌, ◌++◌, length, drop, None, Err, refl, sym, ap, ◌∙◌, subst, arith, length-append, eq-eqb, eqb-true, Bool, true, false, ◌==◌}
+use Rattle.std.proofs.Common.{◌≡◌, ℕ, ◌-◌, List, [], ◌∷◌, ◌++◌, length, None, Err, refl, sym, ap, ◌∙◌, subst, arith, eq-eqb, eqb-true, Bool, true, false, ◌==◌}
 use Rattle.grammar_rules.specs.Readers.{Outcome, found, failed, answer}
 use Rattle.grammar_rules.specs.Places.{value, refusal, Answers}
 use Rattle.grammar_rules.proofs.Right.{Right}
 use Rattle.grammar_rules.proofs.Answering.{answers}
 use Rattle.grammar_rules.proofs.OneAnswer.{one_answer}
+use Rattle.grammar_rules.proofs.Places.{place-left}
 use Rattle.request_elements.specs.declared.found.Found.{Found}
 use Rattle.request_elements.specs.declared.elements.Failure.{Failure}
 use Rattle.request_elements.specs.declared.elements.Failure.TheVariants.{Refused, Memory}
 use Rattle.request_elements.specs.declared.elements.ElementsError.TheVariants.{OutOfMemory}
-use Rattle.request_elements.specs.Pieces.{Symbol, first_place, symbols_of, place_of}
+use Rattle.grammar_rules.specs.Placed.{first_place}
+use Rattle.request_elements.specs.Pieces.{Symbol, symbols_of, place_of}
 use Rattle.request_elements.specs.Grammar.{request_body}
 use Rattle.request_elements.specs.Readers.{read_body, onto, Gives}
 use Rattle.request_elements.specs.Body.{HasElements, IsMalformed, IsMalformedAs, IsAt, error_of}
 use Rattle.request_elements.proofs.Readings.{body_sight, reads-body}
 use Rattle.request_elements.proofs.ReaderSteps.{onto_nothing}
-
-left_over : (pre left : List Symbol) → drop (length (pre ++ left) - length left) (pre ++ left) ≡ left
-left_over [] left = let z : length left - length left ≡ 0 = omega arith in rw z refl
-left_over (s ∷ pre) left =
-    let n = length-append pre left in
-    let z : suc (length (pre ++ left)) - length left ≡ suc (length (pre ++ left) - length left) = omega arith in
-    rw z (left_over pre left)
 
 module _ (body : List ℕ) where
   right_of : (o : Outcome Symbol ⊥ (List Found)) → read_body (symbols_of body) ≡ o → Right request_body (symbols_of body) o
@@ -30,9 +25,9 @@ module _ (body : List ℕ) where
   said_of : (o : Outcome Symbol ⊥ (List Found)) → read_body (symbols_of body) ≡ o → Answers request_body (symbols_of body) (answer (length (symbols_of body)) o)
   said_of o e = answers request_body reads-body.clear.fronts (symbols_of body) o (right_of o e)
 
-  place_at : (pre left : List Symbol) → symbols_of body ≡ pre ++ left → first_place (length body) left ≡ place_of body (length (symbols_of body) - length left)
+  piece_place : (pre left : List Symbol) → symbols_of body ≡ pre ++ left → first_place (length body) left ≡ place_of body (length (symbols_of body) - length left)
   unfolding place_of
-  place_at pre left e = ap (first_place (length body)) (sym (left_over pre left) ∙ ap (λ ss. drop (length ss - length left) ss) (sym e))
+  piece_place pre left e = place-left (length body) (symbols_of body) pre left e
 
   -- the readers find these elements and no piece more: the body has them
   pub read_whole_body : (fs : List Found) → read_body (symbols_of body) ≡ found fs [] → HasElements body fs
@@ -42,14 +37,14 @@ module _ (body : List ℕ) where
   more_pieces fs s left e = record {
     piece = length (symbols_of body) - length (s ∷ left);
     refused = said_of (found fs (s ∷ left)) e;
-    place = let w = right_of (found fs (s ∷ left)) e in place_at w.pre (s ∷ left) w.is;
+    place = let w = right_of (found fs (s ∷ left)) e in piece_place w.pre (s ∷ left) w.is;
   }
 
   stopped : (left : List Symbol) → read_body (symbols_of body) ≡ failed None left → IsMalformed body (first_place (length body) left)
   stopped left e = record {
     piece = length (symbols_of body) - length left;
     refused = said_of (failed None left) e;
-    place = let w = right_of (failed None left) e in place_at w.pre left w.is;
+    place = let w = right_of (failed None left) e in piece_place w.pre left w.is;
   }
 
   -- as the code tells it

@@ -10,7 +10,8 @@ use Rattle.request_elements.specs.declared.found.Found.{Found}
 use Rattle.request_elements.specs.declared.elements.Failure.{Failure}
 use Rattle.request_elements.specs.declared.elements.Failure.TheVariants.{Refused, Memory}
 use Rattle.request_elements.specs.Elements.{is_leaf, is_child, same_element}
-use Rattle.request_elements.specs.Pieces.{Symbol, first_place}
+use Rattle.grammar_rules.specs.Placed.{first_place}
+use Rattle.request_elements.specs.Pieces.{Symbol}
 use Rattle.request_elements.specs.Grammar.{is_declaration_piece, starts_element, ends_element, is_whole_element, blanks, found_alone, joined, element_within}
 use Rattle.request_elements.specs.Readers.{behind, behind_blanks, with_blanks, read_whole, read_characters, read_leaf, read_container, child_begun, first_child, where_free, read_child, read_free, read_children, read_element, read_body, onto, Gives, Closes, FailsToClose}
 use Rattle.request_elements.proofs.ChildLaws.{tells_tag}

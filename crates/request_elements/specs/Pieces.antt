@@ -6,6 +6,7 @@
 use Rattle.std.specs.Prelude.{ℕ, zero, suc, ◌+◌, Bool, false, ◌&&◌, ◌||◌, not, ◌==◌, List, [], ◌∷◌, ◌++◌, length, drop, take, codes, bytes_eq, if◌then◌else◌}
 use Rattle.std.specs.List.{list_any, list_all}
 use Rattle.std.specs.Str.{is_utf8}
+use Rattle.grammar_rules.specs.Placed.{Placed, place_at}
 
 pub data Piece : Type 0 where
   -- `<?xml ..?>`
@@ -22,9 +23,8 @@ pub data Piece : Type 0 where
   unfit : Piece
 
 -- a piece and its place in bytes
-pub record Symbol : Type 0 where
-  pub at : ℕ
-  pub piece : Piece
+abbrev pub Symbol : Type 0
+Symbol = Placed Piece
 
 -- space, tab, CR, LF
 abbrev pub is_blank : ℕ → Bool
@@ -136,11 +136,6 @@ cut at bytes = cut_behind 0 at bytes
 abbrev pub symbols_of : List ℕ → List Symbol
 symbols_of body = cut 0 body
 
--- the place of the first piece, or the body's length
-abbrev pub first_place : ℕ → List Symbol → ℕ
-first_place size [] = size
-first_place size (s ∷ symbols) = s.at
-
 -- the place of the k-th piece, counted from 0, or the body's length behind the last
 unfoldable pub place_of : List ℕ → ℕ → ℕ
-place_of body k = first_place (length body) (drop k (symbols_of body))
+place_of body k = place_at (length body) (symbols_of body) k

@@ -2,7 +2,8 @@
 ghost use Rattle.std.specs.Prelude.{◌≡◌, ◌==◌, ◌&&◌, ◌||◌, not, ◌+◌, ◌<◌, ◌∷◌, length, drop, MatchOption, Some, None, if◌then◌else◌};
 ghost use Rattle.std.specs.Str.{is_utf8};
 ghost use Rattle.grammar_rules.specs.Readers.{starts};
-ghost use Rattle.request_elements.specs.Pieces.{start_tag, empty_tag, ends_with, but_last, has, is_blank, are_blanks, up_to, without_last_blanks, without_first_blanks, is_declaration, is_root_with_namespace, is_namespace, is_declared, named, tag, cut, symbols_of, first_place};
+ghost use Rattle.grammar_rules.specs.Placed.{first_place};
+ghost use Rattle.request_elements.specs.Pieces.{start_tag, empty_tag, ends_with, but_last, has, is_blank, are_blanks, up_to, without_last_blanks, without_first_blanks, is_declaration, is_root_with_namespace, is_namespace, is_declared, named, tag, cut, symbols_of};
 ghost use Rattle.request_elements.specs.Grammar.{is_declaration_piece, is_blank_piece, starts_element, ends_element, is_whole_element};
 ghost use Rattle.request_elements.specs.Cursor.{shown, first_text, first_name};
 

@@ -6,6 +6,8 @@ use Rattle.std.proofs.lemmas.Bool.{and_from, or_from, or_parts, cond_both, not-t
 use Rattle.std.proofs.lemmas.Bool.Decides.{nat_tests}
 use lib.Utf8.{encode}
 use Rattle.grammar_rules.specs.Rules.{Rule, Verdict, takes, refuses, terminal, token, nothing, made, sequence, ◌&◌, followed_by, preceded_by, one_of_two, either, optional, allowed, member, without, some_members, members}
+use Rattle.grammar_rules.specs.Spelled.{Each}
+use Rattle.grammar_rules.proofs.EachValue.{each-terminal, each-nothing, each-made, each-of_two, each-either, each-sequence, each-allowed}
 use Rattle.request_elements.specs.declared.element.Element.{Element}
 use Rattle.request_elements.specs.declared.element.Element.TheVariants.{Request, Expression}
 use Rattle.request_elements.specs.declared.found.Found.{Found}
@@ -125,36 +127,6 @@ value_clean raw =
     cond_both (is_utf8 raw && not (has 0 raw)) _ None Clean
     (λ t. resolved_clean 0 raw (not-true (has 0 raw) (and_right (is_utf8 raw) (not (has 0 raw)) t))) (λ _. no_text)
 
--- ---- what holds of each value that a rule spells
-
-abbrev Each : {T K A : Type 0} → (A → Type 0) → Rule T K A → Type 0
-Each {T = T} {A = A} P G = (a : A) (ts : List T) → G.Spells a ts → P a
-
-each_terminal : {T K A : Type 0} (look : T → Verdict K A) (P : A → Type 0) → ((t : T) (a : A) → look t ≡ takes a → P a) → Each P (terminal look)
-each_terminal look P h a [] w = absurd w
-each_terminal look P h a (t ∷ []) w = h t a w
-each_terminal look P h a (t ∷ u ∷ ts) w = absurd w
-
-each_nothing : {A : Type 0} (T K : Type 0) (a : A) (P : A → Type 0) → P a → Each P (nothing {T = T} {K = K} a)
-each_nothing T K a P p b ts w = subst P w.0 p
-
-each_made : {T K A B : Type 0} (f : A → B) (G : Rule T K A) (P : B → Type 0) → Each (λ a. P (f a)) G → Each P (made f G)
-each_made f G P h b ts w = subst P w.1 (h w.0 ts w.2)
-
-each_of_two : {T K A : Type 0} (G H : Rule T K A) (P : A → Type 0) → Each P G → Each P H → (b : Bool) → Each P (one_of_two G H b)
-each_of_two G H P g h true = g
-each_of_two G H P g h false = h
-
-each_either : {T K A : Type 0} (G H : Rule T K A) (P : A → Type 0) → Each P G → Each P H → Each P (either G H)
-each_either G H P g h a ts w = each_of_two G H P g h w.0 a ts w.1
-
-each_sequence : {T K A B : Type 0} (G : Rule T K A) (H : A → Rule T K B) (P : B → Type 0) → ((a : A) (ts : List T) → G.Spells a ts → Each P (H a)) → Each P (sequence G H)
-each_sequence G H P h b ts j = h j.value j.left j.whole b j.right j.after
-
-each_allowed : {T K A : Type 0} (b : Bool) (G : Rule T K A) (P : A → Type 0) → Each P G → Each P (allowed b G)
-each_allowed true G P g = g
-each_allowed {K = K} {A = A} false G P g = each_terminal (λ t. refuses) P (λ t a e. absurd ((λ (e : refuses ≡ takes a). let no : ⊥ = cc in no) e))
-
 -- ---- the rules of a body
 
 abbrev AllClean : List Found → Type 0
@@ -183,59 +155,59 @@ text_piece = terminal (λ s. taken (characters_of s.piece))
 characters_clean : Each NoNul characters
 characters_clean =
     let Unwrapped : Option (List ℕ) → Type 0 = λ o. NoNul (unwrap_or o []) in
-    each_made (λ t. unwrap_or t []) (optional text_piece) NoNul
-    (each_either (made Some text_piece) (nothing None) Unwrapped
-    (each_made Some text_piece Unwrapped (each_terminal (λ s. taken (characters_of s.piece)) NoNul (λ s text e. piece_clean s.piece text (taken_some (characters_of s.piece) text e))))
-    (each_nothing Symbol ⊥ None Unwrapped refl))
+    each-made (λ t. unwrap_or t []) (optional text_piece) NoNul
+    (each-either (made Some text_piece) (nothing None) Unwrapped
+    (each-made Some text_piece Unwrapped (each-terminal (λ s. taken (characters_of s.piece)) NoNul (λ s text e. piece_clean s.piece text (taken_some (characters_of s.piece) text e))))
+    (each-nothing Symbol ⊥ None Unwrapped refl))
 
 leaf_clean : (e : Element) → Each AllClean (leaf e)
 leaf_clean e =
-    each_either (made (λ s. found_alone e s.at []) (whole_of e)) (made (λ p. found_alone e p.0.at p.1) (start_of e & followed_by characters (end_of e))) AllClean
-    (each_made (λ s. found_alone e s.at []) (whole_of e) AllClean (λ s ts w. (refl, tt)))
-    (each_made (λ p. found_alone e p.0.at p.1) (start_of e & followed_by characters (end_of e)) AllClean
-    (each_sequence (start_of e) (λ s. made (λ b. (s, b)) (followed_by characters (end_of e))) (λ p. AllClean (found_alone e p.0.at p.1))
-    (λ s ts w. each_made (λ b. (s, b)) (followed_by characters (end_of e)) (λ p. AllClean (found_alone e p.0.at p.1))
-    (each_sequence characters (λ t. made (λ b. t) (end_of e)) (λ t. AllClean (found_alone e s.at t))
-    (λ t us v. each_made (λ b. t) (end_of e) (λ t. AllClean (found_alone e s.at t)) (λ b vs u. (characters_clean t us v, tt)))))))
+    each-either (made (λ s. found_alone e s.at []) (whole_of e)) (made (λ p. found_alone e p.0.at p.1) (start_of e & followed_by characters (end_of e))) AllClean
+    (each-made (λ s. found_alone e s.at []) (whole_of e) AllClean (λ s ts w. (refl, tt)))
+    (each-made (λ p. found_alone e p.0.at p.1) (start_of e & followed_by characters (end_of e)) AllClean
+    (each-sequence (start_of e) (λ s. made (λ b. (s, b)) (followed_by characters (end_of e))) (λ p. AllClean (found_alone e p.0.at p.1))
+    (λ s ts w. each-made (λ b. (s, b)) (followed_by characters (end_of e)) (λ p. AllClean (found_alone e p.0.at p.1))
+    (each-sequence characters (λ t. made (λ b. t) (end_of e)) (λ t. AllClean (found_alone e s.at t))
+    (λ t us v. each-made (λ b. t) (end_of e) (λ t. AllClean (found_alone e s.at t)) (λ b vs u. (characters_clean t us v, tt)))))))
 
 container_clean : (e : Element) (C : Rule Symbol ⊥ (List Found)) → Each AllClean C → Each AllClean (container e C)
 container_clean e C clean =
-    each_either (made (λ s. found_alone e s.at []) (whole_of e))
+    each-either (made (λ s. found_alone e s.at []) (whole_of e))
     (made (λ p. found_alone e p.0.at [] ++ p.1) (start_of e & preceded_by blanks (followed_by C (end_of e)))) AllClean
-    (each_made (λ s. found_alone e s.at []) (whole_of e) AllClean (λ s ts w. (refl, tt)))
-    (each_made (λ p. found_alone e p.0.at [] ++ p.1) (start_of e & preceded_by blanks (followed_by C (end_of e))) AllClean
-    (each_sequence (start_of e) (λ s. made (λ b. (s, b)) (preceded_by blanks (followed_by C (end_of e)))) (λ p. AllClean (found_alone e p.0.at [] ++ p.1))
-    (λ s ts w. each_made (λ b. (s, b)) (preceded_by blanks (followed_by C (end_of e))) (λ p. AllClean (found_alone e p.0.at [] ++ p.1))
-    (each_sequence blanks (λ o. followed_by C (end_of e)) (λ b. AllClean (found_alone e s.at [] ++ b))
-    (λ o us v. each_sequence C (λ found. made (λ b. found) (end_of e)) (λ b. AllClean (found_alone e s.at [] ++ b))
-    (λ found vs u. each_made (λ b. found) (end_of e) (λ b. AllClean (found_alone e s.at [] ++ b)) (λ b ws x. (refl, clean found vs u))))))))
+    (each-made (λ s. found_alone e s.at []) (whole_of e) AllClean (λ s ts w. (refl, tt)))
+    (each-made (λ p. found_alone e p.0.at [] ++ p.1) (start_of e & preceded_by blanks (followed_by C (end_of e))) AllClean
+    (each-sequence (start_of e) (λ s. made (λ b. (s, b)) (preceded_by blanks (followed_by C (end_of e)))) (λ p. AllClean (found_alone e p.0.at [] ++ p.1))
+    (λ s ts w. each-made (λ b. (s, b)) (preceded_by blanks (followed_by C (end_of e))) (λ p. AllClean (found_alone e p.0.at [] ++ p.1))
+    (each-sequence blanks (λ o. followed_by C (end_of e)) (λ b. AllClean (found_alone e s.at [] ++ b))
+    (λ o us v. each-sequence C (λ found. made (λ b. found) (end_of e)) (λ b. AllClean (found_alone e s.at [] ++ b))
+    (λ found vs u. each-made (λ b. found) (end_of e) (λ b. AllClean (found_alone e s.at [] ++ b)) (λ b ws x. (refl, clean found vs u))))))))
 
 abbrev JoinedClean : List (Element × List Found) → Type 0
 JoinedClean ms = AllClean (joined ms)
 
 member_clean : (G : Element → Rule Symbol ⊥ (List Found)) (free : Element → Bool) → ((c : Element) → Each AllClean (G c)) → Each (λ m. AllClean m.1) (member G free)
 member_clean G free clean m ts w =
-    each_made (λ a. (w.0, a)) (allowed (free w.0) (G w.0)) (λ m. AllClean m.1) (each_allowed (free w.0) (G w.0) AllClean (clean w.0)) m ts w.1
+    each-made (λ a. (w.0, a)) (allowed (free w.0) (G w.0)) (λ m. AllClean m.1) (each-allowed (free w.0) (G w.0) AllClean (clean w.0)) m ts w.1
 
 members_clean : (G : Element → Rule Symbol ⊥ (List Found)) → ((c : Element) → Each AllClean (G c)) → (n : ℕ) (free : Element → Bool)
     → Each JoinedClean (some_members same_element G n free)
-members_clean G clean zero free = each_nothing Symbol ⊥ [] JoinedClean tt
+members_clean G clean zero free = each-nothing Symbol ⊥ [] JoinedClean tt
 members_clean G clean (suc n) free =
-    each_either (sequence (member G free) (λ m. made (λ rest. m ∷ rest) (some_members same_element G n (without same_element m.0 free)))) (nothing []) JoinedClean
-    (each_sequence (member G free) (λ m. made (λ rest. m ∷ rest) (some_members same_element G n (without same_element m.0 free))) JoinedClean
-    (λ m ts w. each_made (λ rest. m ∷ rest) (some_members same_element G n (without same_element m.0 free)) JoinedClean
+    each-either (sequence (member G free) (λ m. made (λ rest. m ∷ rest) (some_members same_element G n (without same_element m.0 free)))) (nothing []) JoinedClean
+    (each-sequence (member G free) (λ m. made (λ rest. m ∷ rest) (some_members same_element G n (without same_element m.0 free))) JoinedClean
+    (λ m ts w. each-made (λ rest. m ∷ rest) (some_members same_element G n (without same_element m.0 free)) JoinedClean
     (λ rest us v. all_clean_append m.1 (joined rest) (member_clean G free clean m ts w) (members_clean G clean n (without same_element m.0 free) rest us v))))
-    (each_nothing Symbol ⊥ [] JoinedClean tt)
+    (each-nothing Symbol ⊥ [] JoinedClean tt)
 
 child_clean : (e : Element) (element : Element → Rule Symbol ⊥ (List Found)) → ((c : Element) → Each AllClean (element c)) → (c : Element) → Each AllClean (child_rule e element c)
 child_clean e element clean c =
-    each_allowed (is_child e c) (followed_by (element c) blanks) AllClean
-    (each_sequence (element c) (λ found. made (λ b. found) blanks) AllClean
-    (λ found ts w. each_made (λ b. found) blanks AllClean (λ b us v. clean c found ts w)))
+    each-allowed (is_child e c) (followed_by (element c) blanks) AllClean
+    (each-sequence (element c) (λ found. made (λ b. found) blanks) AllClean
+    (λ found ts w. each-made (λ b. found) blanks AllClean (λ b us v. clean c found ts w)))
 
 children_clean : (e : Element) (element : Element → Rule Symbol ⊥ (List Found)) → ((c : Element) → Each AllClean (element c)) → Each AllClean (children e element)
 children_clean e element clean =
-    each_made joined (members same_element (child_rule e element) (λ c. true)) AllClean
+    each-made joined (members same_element (child_rule e element) (λ c. true)) AllClean
     (λ ms ts w. members_clean (child_rule e element) (child_clean e element clean) w.0 (λ c. true) ms ts w.1)
 
 element_clean : (depth : ℕ) (e : Element) → Each AllClean (element_within depth e)
@@ -243,15 +215,15 @@ unfolding element_within
 element_clean zero e = leaf_clean e
 element_clean (suc depth) e =
     let nested = children e (element_within depth) in
-    each_of_two (leaf e) (container e nested) AllClean (leaf_clean e) (container_clean e nested (children_clean e (element_within depth) (element_clean depth))) (is_leaf e)
+    each-of_two (leaf e) (container e nested) AllClean (leaf_clean e) (container_clean e nested (children_clean e (element_within depth) (element_clean depth))) (is_leaf e)
 
 body_clean : Each AllClean request_body
 unfolding request_body
 body_clean =
-    each_sequence (optional (token (λ s. is_declaration_piece s.piece))) (λ o. preceded_by blanks (followed_by (element_within 3 Request) blanks)) AllClean
-    (λ o ts w. each_sequence blanks (λ o. followed_by (element_within 3 Request) blanks) AllClean
-    (λ o us v. each_sequence (element_within 3 Request) (λ found. made (λ b. found) blanks) AllClean
-    (λ found vs u. each_made (λ b. found) blanks AllClean (λ b ws x. element_clean 3 Request found vs u))))
+    each-sequence (optional (token (λ s. is_declaration_piece s.piece))) (λ o. preceded_by blanks (followed_by (element_within 3 Request) blanks)) AllClean
+    (λ o ts w. each-sequence blanks (λ o. followed_by (element_within 3 Request) blanks) AllClean
+    (λ o us v. each-sequence (element_within 3 Request) (λ found. made (λ b. found) blanks) AllClean
+    (λ found vs u. each-made (λ b. found) blanks AllClean (λ b ws x. element_clean 3 Request found vs u))))
 
 -- ---- the expression
 

@@ -5,7 +5,8 @@ use Rattle.std.proofs.lemmas.Bool.{false≢true, not-true}
 use Rattle.std.proofs.lemmas.List.{append-nil}
 use Rattle.std.proofs.lemmas.Slice.Eq.{bytes_eq-Decides}
 use Rattle.std.proofs.Math.ListN.{length-append}
-use Rattle.grammar_rules.specs.Rules.{Rule, token, followed_by, allowed, without, some_members}
+use Rattle.grammar_rules.specs.Rules.{Rule, followed_by, allowed, without, some_members}
+use Rattle.grammar_rules.proofs.Printing.{spelled-token, spelled-allowed}
 use Rattle.request_elements.specs.Elements.{name_of, is_leaf, is_child, same_element}
 use Rattle.request_elements.specs.Pieces.{start_tag, end_tag, Symbol}
 use Rattle.request_elements.specs.TextValue.{text_value}
@@ -123,17 +124,14 @@ found_append (x ∷ xs) ys at =
 same_bytes : (xs : List ℕ) → bytes_eq xs xs ≡ true
 same_bytes xs = (bytes_eq-Decides xs xs).1 refl
 
-one_token : (test : Symbol → Bool) (s : Symbol) → test s ≡ true → (token {K = ⊥} test).Spells s (s ∷ [])
-one_token test s h = rw h refl
-
 pub no_blanks : blanks.Spells None []
 no_blanks = (false, (refl, refl))
 
 start_spelled : (e : Element) (at : ℕ) → (start_of e).Spells (symbol at (start_tag (name_of e))) (symbol at (start_tag (name_of e)) ∷ [])
-start_spelled e at = one_token (λ s. starts_element e s.piece) (symbol at (start_tag (name_of e))) (same_bytes (name_of e))
+start_spelled e at = spelled-token (λ s. starts_element e s.piece) (symbol at (start_tag (name_of e))) (same_bytes (name_of e))
 
 end_spelled : (e : Element) (at : ℕ) → (end_of e).Spells (symbol at (end_tag (name_of e))) (symbol at (end_tag (name_of e)) ∷ [])
-end_spelled e at = one_token (λ s. ends_element e s.piece) (symbol at (end_tag (name_of e))) (same_bytes (name_of e))
+end_spelled e at = spelled-token (λ s. ends_element e s.piece) (symbol at (end_tag (name_of e))) (same_bytes (name_of e))
 
 empty_text : (t : List ℕ) → text_value [] ≡ Some t → [] ≡ t
 empty_text t h = ap (λ o. unwrap_or o []) (sym (text_value_escaped [] IsUtf8-nil refl) ∙ h)
@@ -208,21 +206,17 @@ container_spelled e C at last found symbols h =
 abbrev pub child_rule : Element → (Element → Rule Symbol ⊥ (List Found)) → Element → Rule Symbol ⊥ (List Found)
 child_rule parent element c = allowed (is_child parent c) (followed_by (element c) blanks)
 
-allowed_spelled : (G : Rule Symbol ⊥ (List Found)) (b : Bool) (found : List Found) (symbols : List Symbol) → b ≡ true → G.Spells found symbols → (allowed b G).Spells found symbols
-allowed_spelled G true found symbols h w = w
-allowed_spelled G false found symbols h w = absurd (false≢true h)
-
 child_spelled : (parent : Element) (element : Element → Rule Symbol ⊥ (List Found)) (c : Element) (found : List Found) (symbols : List Symbol)
     → is_child parent c ≡ true → (element c).Spells found symbols → (child_rule parent element c).Spells found symbols
 child_spelled parent element c found symbols h w =
-    allowed_spelled (followed_by (element c) blanks) (is_child parent c) found symbols h (record {
+    spelled-allowed (followed_by (element c) blanks) found symbols (record {
       value = found;
       left = symbols;
       right = [];
       joined = sym (append-nil symbols);
       whole = w;
       after = (None, refl, no_blanks);
-    })
+    }) (is_child parent c) h
 
 members_end : (parent : Element) (element : Element → Rule Symbol ⊥ (List Found)) (free : Element → Bool) → (some_members same_element (child_rule parent element) 0 free).Spells [] []
 members_end parent element free = (refl, refl)
@@ -238,7 +232,7 @@ members_more parent element n free c found symbols ms later is_free child w h = 
     left = symbols;
     right = later;
     joined = refl;
-    whole = (c, (found, refl, allowed_spelled (child_rule parent element c) (free c) found symbols is_free (child_spelled parent element c found symbols child w)));
+    whole = (c, (found, refl, spelled-allowed (child_rule parent element c) found symbols (child_spelled parent element c found symbols child w) (free c) is_free));
     after = (ms, refl, h);
   },
 )

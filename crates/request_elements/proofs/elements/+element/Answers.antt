@@ -3,7 +3,7 @@ use Rattle.std.proofs.Common.{◌≡◌, ◌-◌, ◌++◌, ◌∙◌, suc, [], 
 use Rattle.std.proofs.lemmas.Result.{err_from_is_err_and}
 use Rattle.std.proofs.lemmas.List.{length-set}
 use Rattle.grammar_rules.specs.Readers.{closed_by}
-use Rattle.request_elements.specs.Pieces.{first_place}
+use Rattle.grammar_rules.specs.Placed.{first_place}
 use Rattle.request_elements.specs.Grammar.{is_blank_piece, ends_element, found_alone}
 use Rattle.request_elements.specs.Readers.{behind_blanks, read_container, read_children, read_element, free_of, first_child, onto}
 use Rattle.request_elements.proofs.ChildLaws.{all_are_free, free_marked}

@@ -1,6 +1,6 @@
 -- The outcome of the whole body is its answer.
 use Rattle.std.proofs.Common.{◌∙◌, length}
-use Rattle.request_elements.specs.Pieces.{first_place}
+use Rattle.grammar_rules.specs.Placed.{first_place}
 use Rattle.request_elements.proofs.BodyAnswers.{body_read, body_goes_on, failure_sound, failure_spelled, failure_refused, one_list, not_both, one_place, none_left, some_left}
 use Rattle.request_elements.proofs.elements.read_elements.Goals as goal
 
