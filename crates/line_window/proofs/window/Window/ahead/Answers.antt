@@ -1,4 +1,4 @@
-use Rattle.std.proofs.Common.{◌≡◌, false, refl, sym, ap, ◌∙◌}
+use Rattle.std.proofs.Common.{◌≡◌, true, false, refl, sym, ap, ◌∙◌}
 use Rattle.std.specs.Prelude.{is_err}
 use Rattle.line_window.specs.Sliding.{View}
 use Rattle.line_window.proofs.TurnLaws.{is_ahead}
