@@ -1,8 +1,10 @@
+pub mod DelimiterLaws
 pub mod StartLaws
-pub mod ByteLaws
-pub mod WindowLaws
-pub mod ScanLaws
-pub mod LendLaws
+pub mod BodyLaws
+pub mod KeptLaws
+pub mod StepLaws
+pub mod LineLaws
 pub mod WayLaws
+pub mod InsideLaws
 pub mod TurnLaws
 pub mod RunLaws

@@ -1,7 +1,10 @@
 pub mod Starts
-pub mod Bytes
+pub mod Cuts
+pub mod Delimiters
+pub mod Spelled
 pub mod Sliding
 pub mod Answers
+pub mod Ahead
 pub mod Buffered
 pub mod Steps
 pub mod Runs

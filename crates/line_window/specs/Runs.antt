@@ -5,12 +5,12 @@ use Rattle.select_ports.specs.declared.outcome.Range.{Range}
 use Rattle.select_ports.specs.Stored.{Opened}
 use Rattle.line_window.specs.declared.line.Line.{Line}
 use Rattle.line_window.specs.declared.line.Line.TheVariants.{At, TooLong, End}
-use Rattle.line_window.specs.Starts.{body, starts_in}
-use Rattle.line_window.specs.Sliding.{View, place, left, Tells, Holds, IsSought, Took}
-use Rattle.line_window.specs.Answers.{IsLent, Turns}
+use Rattle.line_window.specs.Cuts.{Cut, cuts_in}
+use Rattle.line_window.specs.Sliding.{View, left, Tells, IsSought, Took}
+use Rattle.line_window.specs.Answers.{ShowsCut, Turns}
 
 -- one call, and then a run from what it left
-pub record Goes (opened : Opened) (old : View) (result : Result Line Failed) (before : ℕ) (later : View → ℕ → Type 0) : Type 0 where
+pub record Proceeds (opened : Opened) (old : View) (result : Result Line Failed) (before : ℕ) (later : View → ℕ → Type 0) : Type 0 where
   pub middle : View
   pub between : ℕ
   pub turn : Turns opened old middle result before between
@@ -20,25 +20,23 @@ pub record Goes (opened : Opened) (old : View) (result : Result Line Failed) (be
 abbrev pub IsRun : Opened → View → List (Result Line Failed) → View → ℕ → ℕ → Type 0
 IsRun opened old [] new before now = (new ≡ old) × (now ≡ before)
 IsRun opened old (result ∷ results) new before now =
-    Goes opened old result before (λ middle between. IsRun opened middle results new between now)
+    Proceeds opened old result before (λ middle between. IsRun opened middle results new between now)
 
--- the starts that were answered
-abbrev pub answered : List (Result Line Failed) → List ℕ
-answered [] = []
-answered (Ok (At start bytes whole) ∷ results) = start ∷ answered results
-answered (Ok (TooLong start) ∷ results) = start ∷ answered results
-answered (Ok End ∷ results) = answered results
-answered (Err failed ∷ results) = answered results
+-- the answer shows the first of these cuts, and later answers the others
+pub record ShowsNext (longest : ℕ) (shown : List Cut) (line : Line) (later : List Cut → Type 0) : Type 0 where
+  pub cut : Cut
+  pub others : List Cut
+  pub first : shown ≡ cut ∷ others
+  pub here : ShowsCut longest cut line
+  pub rest : later others
 
--- each answered line is the object's
-abbrev pub AreLines : ℕ → List ℕ → List ℕ → List (Result Line Failed) → Type 0
-AreLines longest delimiter object [] = Unit {0}
-AreLines longest delimiter object (Ok (At start bytes whole) ∷ results) =
-    IsLent longest delimiter object start bytes.now whole × AreLines longest delimiter object results
-AreLines longest delimiter object (Ok (TooLong start) ∷ results) =
-    (longest < length (body delimiter object start)) × AreLines longest delimiter object results
-AreLines longest delimiter object (Ok End ∷ results) = AreLines longest delimiter object results
-AreLines longest delimiter object (Err failed ∷ results) = AreLines longest delimiter object results
+-- the answers with a line show these cuts, one after the other
+abbrev pub ShowCuts : ℕ → List Cut → List (Result Line Failed) → Type 0
+ShowCuts longest shown [] = shown ≡ []
+ShowCuts longest shown (Ok (At start bytes whole) ∷ results) = ShowsNext longest shown (At start bytes whole) (λ others. ShowCuts longest others results)
+ShowCuts longest shown (Ok (TooLong start) ∷ results) = ShowsNext longest shown (TooLong start) (λ others. ShowCuts longest others results)
+ShowCuts longest shown (Ok End ∷ results) = ShowCuts longest shown results
+ShowCuts longest shown (Err failed ∷ results) = ShowCuts longest shown results
 
 -- some answer is `End`
 abbrev pub has_end : List (Result Line Failed) → Bool
@@ -48,13 +46,14 @@ has_end (Ok (TooLong start) ∷ results) = has_end results
 has_end (Ok End ∷ results) = true
 has_end (Err failed ∷ results) = has_end results
 
--- what a run over a range of an object answered: its first starts, each once and in order, and all of them where `End` came
+-- what a run over a range of an object answered: the range's first cuts, each once and in order, and all of them where `End` came
 pub record AnswersRange (object : List ℕ) (old new : View) (range : Range) (results : List (Result Line Failed)) : Type 0 where
-  pub starts : starts_in old.delimiter object range.first range.last ≡ answered results ++ left object new
-  pub lines : AreLines old.longest old.delimiter object results
+  pub shown : List Cut
+  pub split : cuts_in old.delimiter object range.first range.last ≡ shown ++ left object new
+  pub lines : ShowCuts old.longest shown results
   pub all : has_end results ≡ true → left object new ≡ []
 
--- Every run after a seek answers the range's starts, each once and in order.
+-- Every run after a seek answers the range's cuts, each once and in order.
 abbrev pub RunsAnswerRange : Type 0
 RunsAnswerRange =
     (opened : Opened) (object : List ℕ) (old sought new : View) (range : Range) (results : List (Result Line Failed)) (before now : ℕ)
@@ -67,7 +66,7 @@ pub record TakesFew (old new : View) (range : Range) (object_size before now : �
   pub count : ℕ
   pub took : Took count before now
   pub fewer : count < (range.last + 1 - range.first) + old.longest + 131072
-  pub kept : count + range.first ≤ place new + old.longest + 131074
+  pub kept : count + range.first ≤ new.place + old.longest + 131074
   pub object : count + (range.first - length old.delimiter) ≤ object_size
 
 -- Every run after a seek takes few bytes, whatever the reads hand out and wherever one fails.

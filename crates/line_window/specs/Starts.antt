@@ -1,4 +1,4 @@
--- Where the lines of an object start, and what each line holds. An object is a list of bytes, and so is the delimiter that ends a line.
+-- Where the lines of an object start, and where their bodies end. An object is a list of bytes, and so is the delimiter that ends a line.
 use Rattle.std.specs.Prelude.{◌≡◌, ℕ, zero, suc, ◌+◌, ◌-◌, ◌≤◌, Bool, ◌&&◌, ◌||◌, ◌==◌, nat_lt, nat_le, List, [], ◌∷◌, ◌++◌, length, take, drop, min, bytes_eq, if◌then◌else◌}
 
 -- the delimiter stands directly before place p
@@ -30,21 +30,13 @@ before_delimiter delimiter (x ∷ xs) =
 abbrev pub body : List ℕ → List ℕ → ℕ → List ℕ
 body delimiter object p = before_delimiter delimiter (drop p object)
 
--- bytes without a leading UTF-8 byte order mark
-abbrev pub without_mark : List ℕ → List ℕ
-without_mark xs = if bytes_eq (take 3 xs) (0xef ∷ 0xbb ∷ 0xbf ∷ []) then drop 3 xs else xs
-
--- the content of the line at p: its body, without a byte order mark at the object's front
-abbrev pub content : List ℕ → List ℕ → ℕ → List ℕ
-content delimiter object p = if p == 0 then without_mark (body delimiter object p) else body delimiter object p
-
 -- the whole length of the line at p: its body and, where the object goes on, the delimiter after it
 abbrev pub whole_len : List ℕ → List ℕ → ℕ → ℕ
 whole_len delimiter object p = min (length (body delimiter object p) + length delimiter) (length object - p)
 
 -- The tiling law: the starts of two adjacent ranges, one list after the other, are the starts of both.
-abbrev pub AdjacentRangesAppend : Type 0
-AdjacentRangesAppend =
+abbrev pub AdjacentStartsAppend : Type 0
+AdjacentStartsAppend =
     (delimiter object : List ℕ) (first middle last : ℕ) → first ≤ middle → middle ≤ last
     → starts_in delimiter object first last ≡ starts_in delimiter object first middle ++ starts_in delimiter object (middle + 1) last
 

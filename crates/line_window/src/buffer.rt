@@ -1,11 +1,9 @@
 //! Reading an object into a buffer, a piece at a time.
-ghost use Rattle.std.specs.Prelude.{◌≡◌, ℕ, ◌+◌, ◌-◌, ◌<◌, ◌≤◌, List, length, take, drop, IfOk, MatchOption};
+ghost use Rattle.std.specs.Prelude.{◌≡◌, ℕ, ◌+◌, ◌-◌, ◌<◌, ◌≤◌, List, length, take, drop, IfOk};
 ghost use Rattle.select_ports.specs.Causes.{HasCause, Counted};
 ghost use Rattle.select_ports.specs.Stored.{IsOpen};
 ghost use Rattle.line_window.specs.Sliding.{Tells};
-ghost use Rattle.line_window.specs.Bytes.{HasNone, IsFirstAt};
 
-use memchr::memchr;
 use select_ports::{Failed, Store};
 
 /// The most bytes of one read.
@@ -17,6 +15,7 @@ pub(crate) fn make_room(buffer: &mut [u8], start: usize, end: usize) -> usize
     requires within { end ≤ length buffer.old }
     requires room { end - start + 65536 ≤ length buffer.old }
     ensures room { result + (end - start) + 65536 ≤ length buffer.new }
+    ensures back { result ≤ start }
     ensures len { length buffer.new ≡ length buffer.old }
     ensures kept { take (end - start) (drop result buffer.new) ≡ take (end - start) (drop start buffer.old) }
 {
@@ -55,14 +54,4 @@ pub(crate) fn read_piece<S: Store>(
     let (_, free) = buffer.split_at_mut(end);
     let (piece, _) = free.split_at_mut(len);
     store.read_at(at, piece)
-}
-
-/// The first place of a byte. On the way to the next line that is mostly place 0, which is looked at before a search is begun.
-pub(crate) fn find(byte: u8, bytes: &[u8]) -> Option<usize>
-    ensures { MatchOption result (HasNone byte bytes.now (length bytes.now)) (IsFirstAt byte bytes.now) }
-{
-    if bytes.first() == Some(&byte) {
-        return Some(0);
-    }
-    memchr(byte, bytes)
 }

@@ -1,10 +1,12 @@
-//! Laws of starts, and of the runs of a window. The functions do nothing: their contracts are the laws.
-ghost use Rattle.line_window.specs.Starts.{AdjacentRangesAppend, NearBytesTell};
+//! Laws of starts and cuts, and of the runs of a window. The functions do nothing: their contracts are the laws.
+ghost use Rattle.line_window.specs.Starts.{AdjacentStartsAppend, NearBytesTell};
+ghost use Rattle.line_window.specs.Cuts.{AdjacentCutsAppend};
 ghost use Rattle.line_window.specs.Runs.{RunsAnswerRange, RunsTakeFew};
 
-/// The starts of two adjacent ranges, one list after the other, are the starts of both.
+/// The starts of two adjacent ranges, one list after the other, are the starts of both; and so are their cuts.
 pub fn adjacent_ranges_append()
-    ensures { AdjacentRangesAppend }
+    ensures starts { AdjacentStartsAppend }
+    ensures cuts { AdjacentCutsAppend }
 {}
 
 /// The starts of a range are told by its bytes and as many bytes before it as the delimiter has.
@@ -12,7 +14,8 @@ pub fn near_bytes_tell()
     ensures { NearBytesTell }
 {}
 
-/// Every run of `next` after a seek answers the range's lines, each once and in order, and all of them where it came to the end.
+/// Every run of `next` after a seek answers the cuts of the range's lines, each once and in order, and all of them where it came to
+/// the end.
 pub fn runs_answer_the_range()
     ensures { RunsAnswerRange }
 {}

@@ -2,12 +2,14 @@
 #![tactic(auto)]
 
 mod buffer;
+mod delimiter;
 mod laws;
 mod line;
 #[cfg(test)]
 mod tests;
 mod window;
 
+pub use delimiter::is_delimiter;
 pub use laws::{
     adjacent_ranges_append, near_bytes_tell, runs_answer_the_range, runs_take_few_bytes,
 };

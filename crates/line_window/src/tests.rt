@@ -1,10 +1,11 @@
-//! Lines of small objects in memory, over reads of one byte and of 65,536, and what a failed read leaves.
+//! Lines of small objects in memory, over reads of one byte and of 65,536, and the bytes ahead.
 ghost use Rattle.std.specs.Prelude.{◌≡◌, ◌<◌, ◌≤◌};
 ghost use Rattle.select_ports.specs.Stored.{IsOpen};
 
-use crate::{Line, Window};
+use crate::{Line, Window, is_delimiter};
 use select_ports::{Failed, Found, Limits, MemObject, MemStore, Range, Store};
 use std::alloc::Global;
+use std::process::Abort;
 use std::test::Fail;
 
 /// A store of one object, named `o`, whose reads hand out so many bytes and whose call of this number fails.
@@ -59,75 +60,76 @@ fn answers<S: Store>(
     Ok(())
 }
 
-/// The lines of a range of an object, at a record limit.
-fn lines(
-    alloc: Global,
-    object: &[u8],
-    longest: usize,
-    first: u64,
-    last: u64,
-    length: usize,
-) -> Result<String, Fail>
+/// An object, its delimiter, the record limit, a range, and the answers.
+type Row = (&'static [u8], &'static [u8], usize, u64, u64, &'static str);
+
+const ROWS: &[Row] = &[
+    (b"ab\ncd\n", b"\n", 2, 0, 5, "0+3=ab 3+3=cd . . "),
+    (b"ab\ncd", b"\n", 2, 1, 4, "3+2=cd . . . "),
+    (b"ab\ncd\n", b"\n", 2, 1, 2, ". . . . "),
+    (b"\n\na", b"\n", 2, 0, 2, "0+1= 1+1= 2+1=a . "),
+    (b"\xef\xbb\xbfa\nb", b"\n", 4, 0, 5, "0+5=a 5+1=b . . "),
+    (b"abcd\nabc\n", b"\n", 3, 0, 8, "0! 5+4=abc . . "),
+    (b"a\r\nb", b"\n", 3, 0, 3, "0+3=a\r 3+1=b . . "),
+    (b"a\r\nb\rc\r\n", b"\r\n", 3, 0, 7, "0+3=a 3+5=b\rc . . "),
+    (b"a\r\nb\r", b"\r\n", 3, 1, 4, "3+2=b\r . . . "),
+    (b"\r\r\n\r\n", b"\r\n", 3, 0, 4, "0+3=\r 3+2= . . "),
+    (b"abcd\r\nabc\r\n", b"\r\n", 3, 0, 10, "0! 6+5=abc . . "),
+];
+
+/// The answers about a row, from a store whose reads hand out so many bytes.
+fn lines(alloc: Global, row: &Row, length: usize) -> Result<String, Fail>
     requires some { 0 < length }
-    requires limit { longest ≤ 16777216 }
 {
+    let (object, delimiter, longest, first, last, _) = *row;
     let mut text = String::new(alloc);
     let mut store = store_of(alloc, object, length, 0)?;
-    let mut window = Window::open(alloc, Limits { longest }, b"\n")?;
+    if !is_delimiter(delimiter) || longest > 1024 {
+        return Ok(text);
+    }
+    let mut window = Window::open(alloc, Limits { longest }, delimiter)?;
     let Ok(Found::Size(size)) = store.open("o") else {
         return Ok(text);
     };
     if first <= last && last < size {
         window.seek(&mut store, size, Range { first, last })?;
-        answers(&mut window, &mut store, 5, &mut text)?;
+        answers(&mut window, &mut store, 4, &mut text)?;
     }
     Ok(text)
 }
 
-#[test]
-fn lines_start_behind_delimiters(rt: HostRuntime) -> Result<(), Fail> {
-    let rows: [(&[u8], usize, u64, u64, &str); 8] = [
-        (b"ab\ncd\n", 3, 0, 5, "0+3=ab 3+3=cd . . . "),
-        (b"ab\ncd", 3, 1, 4, "3+2=cd . . . . "),
-        (b"ab\ncd\n", 3, 3, 3, "3+3=cd . . . . "),
-        (b"ab\ncd\n", 3, 1, 2, ". . . . . "),
-        (b"\n\na", 3, 0, 2, "0+1= 1+1= 2+1=a . . "),
-        (b"\xef\xbb\xbfa\nb", 4, 0, 5, "0+5=a 5+1=b . . . "),
-        (b"\xef\xbb\xbfa\nb", 3, 0, 5, "0! 5+1=b . . . "),
-        (b"abcd\nabc\n", 3, 0, 8, "0! 5+4=abc . . . "),
-    ];
-    for (object, longest, first, last, shown) in rows {
+fn rows_are_answered(rt: &impl Abort, alloc: Global, rows: &[Row]) -> Result<(), Fail> {
+    for row in rows {
         for length in [1, 65_536] {
-            let text = lines(rt.alloc(), object, longest, first, last, length)?;
-            assert_eq!(rt; text.as_str(), shown);
+            let text = lines(alloc, row, length)?;
+            assert_eq!(rt; text.as_str(), row.5);
         }
     }
     Ok(())
 }
 
 #[test]
-fn a_failed_window_fails_until_it_is_sought_again(rt: HostRuntime) -> Result<(), Fail> {
-    let mut text = String::new(rt.alloc());
-    let mut store = store_of(rt.alloc(), b"ab\ncd\n", 4, 3)?;
-    let mut window = Window::open(rt.alloc(), Limits { longest: 9 }, b"\n")?;
-    if let Ok(Found::Size(size)) = store.open("o")
-        && size == 6
-    {
-        let range = Range { first: 0, last: 5 };
-        window.seek(&mut store, size, range)?;
-        answers(&mut window, &mut store, 3, &mut text)?;
-        window.seek(&mut store, size, range)?;
-        answers(&mut window, &mut store, 3, &mut text)?;
-    }
-    assert_eq!(rt; text.as_str(), "0+3=ab failed failed 0+3=ab 3+3=cd . ");
-    Ok(())
+fn lines_start_behind_delimiters(rt: HostRuntime) -> Result<(), Fail> {
+    rows_are_answered(&rt, rt.alloc(), ROWS)
 }
 
 #[test]
-fn a_long_line_before_the_range_is_passed(rt: HostRuntime) -> Result<(), Fail> {
-    let mut object = vec![in rt.alloc(); b'x'; 300_000]?;
-    object.extend_from_slice(b"\nab\n")?;
-    let text = lines(rt.alloc(), object.as_slice(), 1024, 7, 300_003, 65_536)?;
-    assert_eq!(rt; text.as_str(), "300001+3=ab . . . . ");
+fn bytes_ahead_are_lent_and_passed(rt: HostRuntime) -> Result<(), Fail> {
+    let mut text = String::new(rt.alloc());
+    let mut store = store_of(rt.alloc(), b"ab\ncd\ne", 2, 0)?;
+    let mut window = Window::open(rt.alloc(), Limits { longest: 9 }, b"\n")?;
+    if let Ok(Found::Size(size)) = store.open("o")
+        && size == 7
+    {
+        window.seek(&mut store, size, Range { first: 0, last: 6 })?;
+        let lent = window.ahead(&mut store, 4)?.len();
+        if lent >= 4 {
+            window.pass(4);
+        }
+        let place = window.place();
+        write!(text, "{place} ")?;
+        answers(&mut window, &mut store, 2, &mut text)?;
+    }
+    assert_eq!(rt; text.as_str(), "4 6+1=e . ");
     Ok(())
 }

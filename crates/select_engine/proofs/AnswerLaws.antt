@@ -9,7 +9,8 @@ use Rattle.event_frame.specs.CountsText.{stats_of}
 use Rattle.select_engine.specs.declared.outcome.Outcome.TheVariants.{Done, Faulted}
 use Rattle.select_engine.specs.declared.code.Code.{Code}
 use Rattle.select_engine.specs.Pieces.{whole_pieces, remainder, unless_empty}
-use Rattle.select_engine.specs.Records.{Record, record_at, is_record_at, records_at}
+use Rattle.line_window.specs.Cuts.{Cut}
+use Rattle.select_engine.specs.Records.{Record, record_of, is_record, records_of}
 use Rattle.select_engine.specs.Answer.{yielded, bytes_of, processed, processed_on, output, fault, fault_on, total_len}
 use Rattle.select_engine.specs.Events.{answer_events, closing_events, counts_of}
 use Rattle.select_engine.specs.Jobs.{outcome_of, ending_of}
@@ -18,10 +19,10 @@ use Rattle.select_engine.specs.LineAnswers.{goes_on, fault_events, end_events, b
 use Rattle.select_engine.specs.Streaming.{begun_after}
 use Rattle.select_engine.proofs.Cutting.{remainder-append, whole_pieces-append}
 
-pub records_at-append : (longest : ℕ) (object xs ys : List ℕ) → records_at longest object (xs ++ ys) ≡ records_at longest object xs ++ records_at longest object ys
-records_at-append longest object xs ys =
-    ap (map (record_at longest object)) (filter-append (is_record_at longest object) xs ys)
-    ∙ map-append (record_at longest object) (filter (is_record_at longest object) xs) (filter (is_record_at longest object) ys)
+pub records_of-append : (longest : ℕ) (xs ys : List Cut) → records_of longest (xs ++ ys) ≡ records_of longest xs ++ records_of longest ys
+records_of-append longest xs ys =
+    ap (map (record_of longest)) (filter-append (is_record longest) xs ys)
+    ∙ map-append (record_of longest) (filter (is_record longest) xs) (filter (is_record longest) ys)
 
 pub output-append : (rs ts : List Record) → output (rs ++ ts) ≡ output rs ++ output ts
 output-append [] ts = refl

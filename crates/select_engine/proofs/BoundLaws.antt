@@ -1,16 +1,18 @@
 -- How many records an object has at most, how long they and their outputs are, and where they start.
 use Rattle.std.proofs.Common.{◌≡◌, ℕ, zero, suc, ◌+◌, ◌*◌, ◌^◌, ◌-◌, ◌<◌, ◌≤◌, Bool, true, false, List, [], ◌∷◌, ◌++◌, length, map, take, drop, Option, None, Some, Result, Ok, Err, refl, sym, ap, ◌∙◌, subst, arith, append-nil, length-append, length-drop, if◌then◌else◌, ◌==◌, cond}
 use Rattle.std.specs.Prelude.{filter, bytes_eq, nat_le, take_while}
+use Rattle.std.proofs.lemmas.List.{length-map}
 use Rattle.std.proofs.lemmas.List.Sums.{sum_by-append, take_while-cons}
 use Rattle.std.proofs.lemmas.Bool.{lt-leb}
 use Rattle.event_frame.specs.Event.{records as records_event}
-use Rattle.line_window.specs.Starts.{starts, is_start, before_delimiter, body, content, without_mark}
-use Rattle.line_window.specs.Sliding.{View, left, place}
+use Rattle.line_window.specs.Starts.{starts, is_start, before_delimiter}
+use Rattle.line_window.specs.Cuts.{Cut, content, without_mark, cut_at, cuts}
+use Rattle.line_window.specs.Sliding.{View, left}
 use Rattle.std.proofs.Math.Nat.{suc-mul, mul-le-mul_right}
 use Rattle.select_engine.specs.declared.code.Code.{Code}
 use Rattle.select_engine.specs.declared.code.Code.TheVariants.{OverMaxRecordSize}
 use Rattle.select_engine.specs.Pieces.{whole_pieces, remainder}
-use Rattle.select_engine.specs.Records.{Record, record_at, is_record_at, records_at, is_too_long, content_fault, unless_faulty, delimiter}
+use Rattle.select_engine.specs.Records.{Record, record_of, is_record, records_of, is_too_long, content_fault, unless_faulty, delimiter}
 use Rattle.select_engine.specs.Answer.{yielded, bytes_of, processed, processed_on, output, total_len}
 use Rattle.select_engine.specs.Events.{wrapped_frames}
 use Rattle.select_engine.specs.Begun.{Begun}
@@ -18,7 +20,7 @@ use Rattle.select_engine.specs.Jobs.{whole_frames, WroteEarly}
 use Rattle.select_engine.specs.Streaming.{Streamed}
 use Rattle.select_engine.proofs.Cutting.{whole_pieces-append}
 use Rattle.select_engine.proofs.Framing.{piece_frames-append}
-use Rattle.select_engine.proofs.AnswerLaws.{records_at-append, output-append, processed-append}
+use Rattle.select_engine.proofs.AnswerLaws.{records_of-append, output-append, processed-append}
 
 pub length-starts : (d object : List ℕ) (a k : ℕ) → length (starts d object a k) ≤ k
 length-starts d object a zero = omega arith
@@ -39,53 +41,70 @@ length-unmarked xs =
     let P : Bool → Type 0 = λ b. length (if b then drop 3 xs else xs) ≤ length xs in
     elim (bytes_eq (take 3 xs) (0xef ∷ 0xbb ∷ 0xbf ∷ [])) as P [ true ↦ rw length-drop (omega arith) | false ↦ omega arith ]
 
-length-content : (object : List ℕ) (p : ℕ) → length (content delimiter object p) ≤ length object
-length-content object p =
-    let within : length (body delimiter object p) ≤ length object =
-    omega (arith, length-before delimiter (drop p object), length-drop p object) in
-    let shorter = length-unmarked (body delimiter object p) in
-    let P : Bool → Type 0 = λ b. length (if b then without_mark (body delimiter object p) else body delimiter object p) ≤ length object in
-    elim (p == 0) as P [ true ↦ omega arith | false ↦ within ]
+length-content : (cut : Cut) → length (content cut) ≤ length cut.body
+length-content cut =
+    let shorter = length-unmarked cut.body in
+    let P : Bool → Type 0 = λ b. length (if b then without_mark cut.body else cut.body) ≤ length cut.body in
+    elim (cut.start == 0) as P [ true ↦ shorter | false ↦ omega arith ]
+
+-- each cut has so many bytes at most
+abbrev pub Within : ℕ → List Cut → Type 0
+Within n [] = Unit {0}
+Within n (cut ∷ cuts) = (cut.whole ≤ n) × (length cut.body ≤ n) × Within n cuts
+
+within-at : (d object places : List ℕ) → Within (length object) (map (cut_at d object) places)
+within-at d object [] = tt
+within-at d object (p ∷ places) =
+    (omega arith, omega (arith, length-before d (drop p object), length-drop p object), within-at d object places)
+
+pub within-left : (object : List ℕ) (v : View) → Within (length object) (left object v)
+within-left object v = within-at v.delimiter object (starts v.delimiter object v.place (v.stop - v.place))
+
+within-front : (n : ℕ) (xs ys : List Cut) → Within n (xs ++ ys) → Within n xs
+within-front n [] ys within = tt
+within-front n (cut ∷ xs) ys within = (within.0, within.1, within-front n xs ys within.2)
 
 -- the output of a record's content, if it has no fault
 bytes-bound : (bytes : List ℕ) (n : ℕ) (found : Option Code) → length bytes ≤ n → length (bytes_of (yielded (unless_faulty bytes found))) ≤ n + 1
 bytes-bound bytes n None within = rw length-append (omega arith)
 bytes-bound bytes n (Some code) within = omega arith
 
-row-bound : (longest : ℕ) (object : List ℕ) (p : ℕ) → length (bytes_of (yielded (record_at longest object p).row)) ≤ length object + 1
-unfolding record_at
-row-bound longest object p =
-    let c = content delimiter object p in
-    let P : Bool → Type 0 = λ b. length (bytes_of (yielded (if b then Err OverMaxRecordSize else unless_faulty c (content_fault c)))) ≤ length object + 1 in
-    elim (is_too_long longest object p) as P [ true ↦ omega arith | false ↦ bytes-bound c (length object) (content_fault c) (length-content object p) ]
+row-bound : (longest n : ℕ) (cut : Cut) → length cut.body ≤ n → length (bytes_of (yielded (record_of longest cut).row)) ≤ n + 1
+unfolding record_of
+row-bound longest n cut within =
+    let c = content cut in
+    let shorter = length-content cut in
+    let P : Bool → Type 0 = λ b. length (bytes_of (yielded (if b then Err OverMaxRecordSize else unless_faulty c (content_fault c)))) ≤ n + 1 in
+    elim (is_too_long longest cut) as P [ true ↦ omega arith | false ↦ bytes-bound c n (content_fault c) (omega arith) ]
 
-len-bound : (longest : ℕ) (object : List ℕ) (p : ℕ) → (record_at longest object p).len ≤ length object
-unfolding record_at
-len-bound longest object p = omega arith
+len-bound : (longest n : ℕ) (cut : Cut) → cut.whole ≤ n → (record_of longest cut).len ≤ n
+unfolding record_of
+len-bound longest n cut within = within
 
--- the record at one start, if it is one
-one-bound : (longest : ℕ) (object : List ℕ) (p : ℕ) → (total_len (records_at longest object (p ∷ [])) ≤ length object) × (length (output (records_at longest object (p ∷ []))) ≤ length object + 1)
-one-bound longest object p =
-    let r = record_at longest object p in
-    let len = len-bound longest object p in
-    let row = row-bound longest object p in
-    let P : Bool → Type 0 = λ b. (total_len (map (record_at longest object) (if b then p ∷ [] else [])) ≤ length object)
-    × (length (output (map (record_at longest object) (if b then p ∷ [] else []))) ≤ length object + 1) in
-    elim (is_record_at longest object p) as P [ true ↦ (omega arith, rw append-nil row) | false ↦ (omega arith, omega arith) ]
+-- the record of one cut, if it is one
+one-bound : (longest n : ℕ) (cut : Cut) → cut.whole ≤ n → length cut.body ≤ n
+    → (total_len (records_of longest (cut ∷ [])) ≤ n) × (length (output (records_of longest (cut ∷ []))) ≤ n + 1)
+one-bound longest n cut whole short =
+    let r = record_of longest cut in
+    let len = len-bound longest n cut whole in
+    let row = row-bound longest n cut short in
+    let P : Bool → Type 0 = λ b. (total_len (map (record_of longest) (if b then cut ∷ [] else [])) ≤ n)
+    × (length (output (map (record_of longest) (if b then cut ∷ [] else []))) ≤ n + 1) in
+    elim (is_record longest cut) as P [ true ↦ (omega arith, rw append-nil row) | false ↦ (omega arith, omega arith) ]
 
--- so many starts have records of so many bytes
-pub places-bound : (longest : ℕ) (object places : List ℕ) → (total_len (records_at longest object places) ≤ length places * length object)
-    × (length (output (records_at longest object places)) ≤ length places * (length object + 1))
-places-bound longest object [] = (omega arith, omega arith)
-places-bound longest object (p ∷ places) =
-    let one = one-bound longest object p in
-    let more = places-bound longest object places in
-    let here = records_at longest object (p ∷ []) in
-    let later = records_at longest object places in
-    let split : records_at longest object (p ∷ places) ≡ here ++ later = records_at-append longest object (p ∷ []) places in (
-      subst (λ (rs : List Record). total_len rs ≤ suc (length places) * length object) (sym split)
+-- so many cuts have records of so many bytes
+pub cuts-bound : (longest n : ℕ) (cuts : List Cut) → Within n cuts → (total_len (records_of longest cuts) ≤ length cuts * n)
+    × (length (output (records_of longest cuts)) ≤ length cuts * (n + 1))
+cuts-bound longest n [] within = (omega arith, omega arith)
+cuts-bound longest n (cut ∷ cuts) within =
+    let one = one-bound longest n cut within.0 within.1 in
+    let more = cuts-bound longest n cuts within.2 in
+    let here = records_of longest (cut ∷ []) in
+    let later = records_of longest cuts in
+    let split : records_of longest (cut ∷ cuts) ≡ here ++ later = records_of-append longest (cut ∷ []) cuts in (
+      subst (λ (rs : List Record). total_len rs ≤ suc (length cuts) * n) (sym split)
           (rw (sum_by-append, suc-mul) (omega (arith, one.0, more.0))),
-      subst (λ (rs : List Record). length (output rs) ≤ suc (length places) * (length object + 1)) (sym split)
+      subst (λ (rs : List Record). length (output rs) ≤ suc (length cuts) * (n + 1)) (sym split)
           (rw (output-append, length-append, suc-mul) (omega (arith, one.1, more.1))),
     )
 
@@ -96,12 +115,12 @@ product-fits count len few short =
     (omega arith, omega arith)
 
 -- the counts of a reply over an object of 64 bits fit 128 bits
-pub counts-fit : (wrap : List ℕ → List ℕ) (longest : ℕ) (object places : List ℕ) (v : View) (begun : Begun) (before mid : Option (List ℕ))
-    → (s : Streamed wrap longest object places v begun before mid) → length places < 2 ^ 64 → length object < 2 ^ 64
-    → (total_len (records_at longest object s.done) < 2 ^ 128) × (length (output (records_at longest object s.done)) < 2 ^ 128)
-counts-fit wrap longest object places v begun before mid s few short =
+pub counts-fit : (wrap : List ℕ → List ℕ) (longest : ℕ) (object : List ℕ) (places : List Cut) (v : View) (begun : Begun) (before mid : Option (List ℕ))
+    → (s : Streamed wrap longest object places v begun before mid) → Within (length object) places → length places < 2 ^ 64 → length object < 2 ^ 64
+    → (total_len (records_of longest s.done) < 2 ^ 128) × (length (output (records_of longest s.done)) < 2 ^ 128)
+counts-fit wrap longest object places v begun before mid s within few short =
     let all : length places ≡ length s.done + length (left object v) = ap length s.split ∙ length-append s.done (left object v) in
-    let bound = places-bound longest object s.done in
+    let bound = cuts-bound longest (length object) s.done (within-front (length object) s.done (left object v) (subst (Within (length object)) s.split within)) in
     let fits = product-fits (length s.done) (length object) (omega arith) short in
     (omega (arith, bound.0, fits.0), omega (arith, bound.1, fits.1))
 
@@ -114,21 +133,22 @@ head-later : (n m : ℕ) (rs : List Record) → n ≤ m → HeadFrom m rs → He
 head-later n m [] le h = tt
 head-later n m (r ∷ rs) le h = omega arith
 
-start-is : (longest : ℕ) (object : List ℕ) (p : ℕ) → (record_at longest object p).start ≡ p
-unfolding record_at
-start-is longest object p = refl
+start-is : (longest : ℕ) (cut : Cut) → (record_of longest cut).start ≡ cut.start
+unfolding record_of
+start-is longest cut = refl
 
-head_from : (longest : ℕ) (object : List ℕ) (a k : ℕ) → HeadFrom a (records_at longest object (starts delimiter object a k))
+head_from : (longest : ℕ) (object : List ℕ) (a k : ℕ) → HeadFrom a (records_of longest (cuts delimiter object a k))
 head_from longest object a zero = tt
 head_from longest object a (suc k) =
     let later = starts delimiter object (suc a) k in
-    let rest : HeadFrom a (records_at longest object later) =
-    head-later a (suc a) (records_at longest object later) (omega arith) (head_from longest object (suc a) k) in
-    let here : a ≤ (record_at longest object a).start = omega (arith, start-is longest object a) in
-    let P : Bool → Type 0 = λ b. HeadFrom a (records_at longest object (if b then a ∷ later else later)) in
-    let Q : Bool → Type 0 = λ b. HeadFrom a (map (record_at longest object) (if b then a ∷ filter (is_record_at longest object) later else filter (is_record_at longest object) later)) in
+    let cut = cut_at delimiter object in
+    let rest : HeadFrom a (records_of longest (map cut later)) =
+    head-later a (suc a) (records_of longest (map cut later)) (omega arith) (head_from longest object (suc a) k) in
+    let here : a ≤ (record_of longest (cut a)).start = omega (arith, start-is longest (cut a)) in
+    let P : Bool → Type 0 = λ b. HeadFrom a (records_of longest (map cut (if b then a ∷ later else later))) in
+    let Q : Bool → Type 0 = λ b. HeadFrom a (map (record_of longest) (if b then cut a ∷ filter (is_record longest) (map cut later) else filter (is_record longest) (map cut later))) in
     elim (is_start delimiter object a) as P [
-      | true ↦ elim (is_record_at longest object a) as Q [ true ↦ here | false ↦ rest ]
+      | true ↦ elim (is_record longest (cut a)) as Q [ true ↦ here | false ↦ rest ]
       | false ↦ rest
     ]
 
@@ -166,19 +186,19 @@ late longest taken n (r ∷ rs) far from =
     (lt-leb (r.start + r.len + (2 * longest + 5 * 65536)) taken (omega arith))
 
 -- the whole pieces of the early records' output have been written
-pub wrote_early : (wrap : List ℕ → List ℕ) (longest taken : ℕ) (object places : List ℕ) (v : View) (begun : Begun) (before mid : Option (List ℕ))
-    → Streamed wrap longest object places v begun before mid → v.delimiter ≡ delimiter → taken < place v + (2 * longest + 5 * 65536)
-    → WroteEarly wrap longest taken (processed (records_at longest object places)) before mid
+pub wrote_early : (wrap : List ℕ → List ℕ) (longest taken : ℕ) (object : List ℕ) (places : List Cut) (v : View) (begun : Begun) (before mid : Option (List ℕ))
+    → Streamed wrap longest object places v begun before mid → v.delimiter ≡ delimiter → taken < v.place + (2 * longest + 5 * 65536)
+    → WroteEarly wrap longest taken (processed (records_of longest places)) before mid
 wrote_early wrap longest taken object places v begun before mid s byte far =
-    let rs = records_at longest object s.done in
-    let later = records_at longest object (left object v) in
+    let rs = records_of longest s.done in
+    let later = records_of longest (left object v) in
     let test : Record → Bool = λ r. nat_le (r.start + r.len + (2 * longest + 5 * 65536)) taken in
-    let from : HeadFrom (place v) later =
-    subst (λ d. HeadFrom (place v) (records_at longest object (starts d object (place v) (v.last + 1 - place v)))) (sym byte)
-    (head_from longest object (place v) (v.last + 1 - place v)) in
-    let all : processed (records_at longest object places) ≡ rs ++ processed later =
-    ap processed (ap (records_at longest object) s.split ∙ records_at-append longest object s.done (left object v)) ∙ processed-append rs later s.fine in
-    let front = passing-front test rs (processed later) (late longest taken (place v) later far from) in
+    let from : HeadFrom v.place later =
+    subst (λ d. HeadFrom v.place (records_of longest (cuts d object v.place (v.stop - v.place)))) (sym byte)
+    (head_from longest object v.place (v.stop - v.place)) in
+    let all : processed (records_of longest places) ≡ rs ++ processed later =
+    ap processed (ap (records_of longest) s.split ∙ records_of-append longest s.done (left object v)) ∙ processed-append rs later s.fine in
+    let front = passing-front test rs (processed later) (late longest taken v.place later far from) in
     let passing = take_while test (rs ++ processed later) in
     let out : output rs ≡ output passing ++ output front.0 = ap output front.1 ∙ output-append passing front.0 in
     let pieces : whole_frames wrap (output rs)
@@ -193,5 +213,7 @@ wrote_early wrap longest taken object places v begun before mid s byte far =
     })
 
 -- a range within an object of 64 bits has fewer than 2^64 starts
-pub length-left : (object : List ℕ) (v : View) → v.last < v.size → v.size < 2 ^ 64 → length (left object v) < 2 ^ 64
-length-left object v within small = omega (arith, length-starts v.delimiter object (place v) (v.last + 1 - place v))
+pub length-left : (object : List ℕ) (v : View) → v.stop ≤ v.size → v.size < 2 ^ 64 → length (left object v) < 2 ^ 64
+length-left object v within small =
+    let places = starts v.delimiter object v.place (v.stop - v.place) in
+    omega (arith, length-map places (cut_at v.delimiter object), length-starts v.delimiter object v.place (v.stop - v.place))

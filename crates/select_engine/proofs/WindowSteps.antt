@@ -3,8 +3,8 @@ use Rattle.std.proofs.Common.{◌≡◌, ℕ, zero, suc, ◌+◌, ◌*◌, ◌<�
 use Rattle.select_ports.specs.Causes.{RoseBy}
 use Rattle.select_ports.specs.Stored.{Opened, IsOpen}
 use Rattle.select_ports.specs.declared.outcome.Failed.{Failed}
-use Rattle.line_window.specs.Sliding.{View, SameRules, Took, Tells, Holds, IsSound, place, left}
-use Rattle.line_window.specs.Answers.{Turns, IsNext, IsNextLine}
+use Rattle.line_window.specs.Sliding.{View, SameRules, Took, Tells, Holds, IsSound, left}
+use Rattle.line_window.specs.Answers.{Turns, IsNext, IsNextCut}
 use Rattle.line_window.specs.declared.line.Line.{Line}
 
 pub open_stays : (o p : Opened) (n m : ℕ) → p ≡ o → m ≡ n → IsOpen o n → IsOpen p m
@@ -13,13 +13,13 @@ open_stays o p n m is same open_ = subst (λ (q : Opened). IsOpen q m) (sym is) 
 pub rules_stay : (u v w : View) → SameRules u v → SameRules v w → SameRules u w
 rules_stay u v w first second = record {
   size = second.size ∙ first.size;
-  last = second.last ∙ first.last;
+  stop = second.stop ∙ first.stop;
   longest = second.longest ∙ first.longest;
   delimiter = second.delimiter ∙ first.delimiter;
 }
 
 pub same_rules : (v : View) → SameRules v v
-same_rules v = record { size = refl; last = refl; longest = refl; delimiter = refl }
+same_rules v = record { size = refl; stop = refl; longest = refl; delimiter = refl }
 
 pub took_none : (n before : ℕ) → n ≡ 0 → Took n before before
 took_none n before is = record { none = λ _. refl; some = λ some. absurd (omega arith) }
@@ -49,7 +49,7 @@ took_at_most zero a b took = let same = took.none refl in omega arith
 took_at_most (suc n) a b took = let rose = took.some (omega arith) in omega arith
 
 -- no more was read than lies before the place and in the buffer
-pub read_near : (v : View) (longest taken : ℕ) → IsSound v → v.longest ≡ longest → taken ≤ v.upto → taken < place v + (2 * longest + 5 * 65536)
+pub read_near : (v : View) (longest taken : ℕ) → IsSound v → v.longest ≡ longest → taken ≤ v.upto → taken < v.place + (2 * longest + 5 * 65536)
 read_near v longest taken sound is within =
     let kept = sound.kept in
     let room = sound.room in
@@ -60,11 +60,11 @@ pub not_given : (opened : Opened) (v w : View) (result : Result Line Failed) (fa
     → result ≡ Err failed → (told : Opened) → opened ≡ told → Tells told object → Holds object v → Holds object w × (left object w ≡ left object v)
 not_given opened v w result failed before now object turns is told same tells holds =
     let next = turns.told object (same ∙ tells) holds in
-    (next.0, subst (λ (r : Result Line Failed). IsNext object v w r) is next.1)
+    (next.0, subst (λ (r : Result Line Failed). IsNext v.longest (left object v) (left object w) r) is next.1)
 
 -- a line was given
 pub given : (opened : Opened) (v w : View) (result : Result Line Failed) (line : Line) (before now : ℕ) (object : List ℕ) → Turns opened v w result before now
-    → result ≡ Ok line → (told : Opened) → opened ≡ told → Tells told object → Holds object v → Holds object w × IsNextLine object v w line
+    → result ≡ Ok line → (told : Opened) → opened ≡ told → Tells told object → Holds object v → Holds object w × IsNextCut v.longest (left object v) (left object w) line
 given opened v w result line before now object turns is told same tells holds =
     let next = turns.told object (same ∙ tells) holds in
-    (next.0, subst (λ (r : Result Line Failed). IsNext object v w r) is next.1)
+    (next.0, subst (λ (r : Result Line Failed). IsNext v.longest (left object v) (left object w) r) is next.1)

@@ -2,7 +2,7 @@
 use Rattle.std.specs.Prelude.{ℕ, ◌||◌, ◌==◌, Bool, true, not, nat_lt, if◌then◌else◌, List, [], ◌∷◌, length, map, filter, Result, Ok, Err, Option, None, Some}
 use Rattle.std.specs.List.{list_any, slice_split}
 use Rattle.std.specs.Str.{is_utf8}
-use Rattle.line_window.specs.Starts.{starts, body, content, whole_len}
+use Rattle.line_window.specs.Cuts.{Cut, content, cuts}
 use Rattle.select_engine.specs.declared.code.Code.{Code}
 use Rattle.select_engine.specs.declared.code.Code.TheVariants.{NotBuilt, OverMaxRecordSize, InvalidTextEncoding, TooManyFields}
 
@@ -35,33 +35,31 @@ pub record Record : Type 0 where
   pub len : ℕ
   pub row : Result (List ℕ) Code
 
--- the line at a start is longer than a record may be
-abbrev pub is_too_long : ℕ → List ℕ → ℕ → Bool
-is_too_long longest object p = nat_lt longest (length (body delimiter object p))
+-- the cut is longer than a record may be
+abbrev pub is_too_long : ℕ → Cut → Bool
+is_too_long longest cut = nat_lt longest (length cut.body)
 
 -- the content, unless it has a fault
 abbrev pub unless_faulty : List ℕ → Option Code → Result (List ℕ) Code
 unless_faulty bytes None = Ok bytes
 unless_faulty bytes (Some code) = Err code
 
--- the record of the line at a start
-unfoldable pub record_at : ℕ → List ℕ → ℕ → Record
-record_at longest object p = record {
-  start = p;
-  len = whole_len delimiter object p;
-  row =
-      if is_too_long longest object p then Err OverMaxRecordSize
-      else unless_faulty (content delimiter object p) (content_fault (content delimiter object p));
+-- the record of a cut
+unfoldable pub record_of : ℕ → Cut → Record
+record_of longest cut = record {
+  start = cut.start;
+  len = cut.whole;
+  row = if is_too_long longest cut then Err OverMaxRecordSize else unless_faulty (content cut) (content_fault (content cut));
 }
 
--- the line at a start is a record: a line that is too long is one, whatever it begins with
-unfoldable pub is_record_at : ℕ → List ℕ → ℕ → Bool
-is_record_at longest object p = is_too_long longest object p || not (is_passed_over (content delimiter object p))
+-- the cut is a record: one that is too long is, whatever it begins with
+unfoldable pub is_record : ℕ → Cut → Bool
+is_record longest cut = is_too_long longest cut || not (is_passed_over (content cut))
 
--- the records of the lines at these starts
-abbrev pub records_at : ℕ → List ℕ → List ℕ → List Record
-records_at longest object places = map (record_at longest object) (filter (is_record_at longest object) places)
+-- the records of these cuts
+abbrev pub records_of : ℕ → List Cut → List Record
+records_of longest cuts = map (record_of longest) (filter (is_record longest) cuts)
 
 -- the records of an object, whose record limit is `longest` bytes
 abbrev pub records : ℕ → List ℕ → List Record
-records longest object = records_at longest object (starts delimiter object 0 (length object))
+records longest object = records_of longest (cuts delimiter object 0 (length object))

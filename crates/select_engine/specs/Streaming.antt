@@ -1,9 +1,10 @@
 -- A reply while the lines of a window are answered, one after the other.
 use Rattle.std.specs.Prelude.{◌≡◌, ℕ, ◌-◌, ◌^◌, min, List, ◌++◌, length, Option, None}
 use Rattle.std.specs.Io.KnownBytes.{Appends}
+use Rattle.line_window.specs.Cuts.{Cut}
 use Rattle.line_window.specs.Sliding.{View, left, Holds}
 use Rattle.select_engine.specs.Pieces.{remainder}
-use Rattle.select_engine.specs.Records.{Record, records_at}
+use Rattle.select_engine.specs.Records.{Record, records_of}
 use Rattle.select_engine.specs.Answer.{output, fault, total_len}
 use Rattle.select_engine.specs.Begun.{Begun}
 use Rattle.select_engine.specs.Jobs.{whole_frames}
@@ -17,10 +18,10 @@ begun_after rs = record {
 }
 
 -- the lines at some starts are answered, and those that the window has left are to come
-pub record Streamed (wrap : List ℕ → List ℕ) (longest : ℕ) (object places : List ℕ) (v : View) (begun : Begun) (before now : Option (List ℕ)) : Type 0 where
+pub record Streamed (wrap : List ℕ → List ℕ) (longest : ℕ) (object : List ℕ) (cuts : List Cut) (v : View) (begun : Begun) (before now : Option (List ℕ)) : Type 0 where
   pub holds : Holds object v
-  pub done : List ℕ
-  pub split : places ≡ done ++ left object v
-  pub fine : fault (records_at longest object done) ≡ None
-  pub stands : begun ≡ begun_after (records_at longest object done)
-  pub written : Appends before now (whole_frames wrap (output (records_at longest object done)))
+  pub done : List Cut
+  pub split : cuts ≡ done ++ left object v
+  pub fine : fault (records_of longest done) ≡ None
+  pub stands : begun ≡ begun_after (records_of longest done)
+  pub written : Appends before now (whole_frames wrap (output (records_of longest done)))

@@ -2,7 +2,7 @@
 ghost use Rattle.std.specs.Prelude.{◌≡◌, ℕ, ◌+◌, ◌-◌, ◌^◌, ◌<◌, ◌≤◌, [], ◌∷◌, false, List, Err, IfErr};
 ghost use Rattle.select_ports.specs.Stored.{IsOpen};
 ghost use Rattle.line_window.specs.Sliding.{Tells, Holds, IsSound, left};
-ghost use Rattle.select_engine.specs.Records.{records, records_at, delimiter};
+ghost use Rattle.select_engine.specs.Records.{records, records_of, delimiter};
 ghost use Rattle.select_engine.specs.Answer.{processed};
 ghost use Rattle.select_engine.specs.Events.{error_event};
 ghost use Rattle.select_engine.specs.Jobs.{Answers, WritesReply, WroteEarly, HasEngineCause};
@@ -69,16 +69,16 @@ fn answer_lines<S: Store, K: FrameSink>(
     requires sound { IsSound window.old }
     requires works { window.old.failed ≡ false }
     requires small { window.old.size < 2 ^ 64 }
-    requires within { window.old.last < window.old.size }
+    requires within { window.old.stop ≤ window.old.size }
     requires delimiter { window.old.delimiter ≡ delimiter }
     requires fresh { reply.old ≡ record { pending = []; scanned = 0; returned = 0 } }
     ensures reply { (object : List ℕ) → Tells (S.current store.old) object → Holds object window.old
-        → Answers K.wrap (processed (records_at window.old.longest object (left object window.old)))
+        → Answers K.wrap (processed (records_of window.old.longest (left object window.old)))
         (K.written out.old) (K.written out.new) result }
     ensures early { (object : List ℕ) → Tells (S.current store.old) object → Holds object window.old
         → window.old.upto ≡ 0 → result ≡ Err EngineError.StoreFault
         → WroteEarly K.wrap window.old.longest (S.taken store.new - S.taken store.old)
-        (processed (records_at window.old.longest object (left object window.old)))
+        (processed (records_of window.old.longest (left object window.old)))
         (K.written out.old) (K.written out.new) }
     ensures cause { IfErr result (HasEngineCause (S.faults store.old) (S.faults store.new)
         (K.faults out.old) (K.faults out.new) (K.written out.old) (K.written out.new)) }

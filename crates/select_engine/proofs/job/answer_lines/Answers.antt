@@ -4,7 +4,7 @@ use Rattle.line_window.specs.Sliding.{left}
 use Rattle.select_engine.specs.Begun.{Begun}
 use Rattle.select_engine.specs.Streaming.{Streamed}
 use Rattle.select_engine.proofs.StreamLaws.{stream_begins, stream_front, line_on, line_ended, line_front, stream_stays}
-use Rattle.select_engine.proofs.BoundLaws.{length-left, wrote_early}
+use Rattle.select_engine.proofs.BoundLaws.{length-left, within-left, wrote_early}
 use Rattle.select_engine.proofs.WindowSteps.{open_stays, rules_stay, same_rules, took_none, took_more, took_at_most, given, not_given, read_near}
 use Rattle.select_engine.proofs.job.answer_lines.Goals as goal
 
@@ -68,7 +68,7 @@ lines-preserved g c =
           subst (λ (b : Begun). Streamed g.K.FrameSink.wrap c.args.window.now.longest object (left object c.args.window.now) c.next.follows.lender-at-none b
           (g.K.FrameSink.written c.args.out.now) (g.K.FrameSink.written c.answer.new.out)) (sym (c.in-Ok-None.ensures.after c.in-Ok-None.field-0-is))
           (line_on g.K.FrameSink.wrap c.args.window.now.longest object (left object c.args.window.now) c.lines.window c.next.follows.lender-at-none c.lines.reply c.in-Ok.line
-          _ _ _ s i.rules.longest (i.rules.delimiter ∙ c.requires.delimiter) next (sym c.in-Ok-None.ensures.outcome ∙ c.in-Ok-None.field-0-is) c.in-Ok-None.ensures.bytes);
+          _ _ _ s i.rules.longest next (sym c.in-Ok-None.ensures.outcome ∙ c.in-Ok-None.field-0-is) c.in-Ok-None.ensures.bytes);
     }
 
 pub returns-in-Ok-Some-clause-reply : goal.returns-in-Ok-Some-clause-reply
@@ -78,8 +78,8 @@ returns-in-Ok-Some-clause-reply g c = λ object tells holds.
     let s = i.told object tells holds in
     let next = given _ c.lines.window c.next.follows.lender-at-none c.next.result c.in-Ok.line _ _ object t c.in-Ok.is _ i.current tells s.holds in
     line_ended g.K.FrameSink.wrap c.args.window.now.longest object (left object c.args.window.now) c.lines.window c.next.follows.lender-at-none c.lines.reply c.in-Ok.line
-    _ _ _ c.in-Ok-Some.outcome s i.rules.longest (i.rules.delimiter ∙ c.requires.delimiter) next.1
-    (length-left object c.args.window.now c.requires.within c.requires.small) (omega (arith, holds.size, c.requires.small))
+    _ _ _ c.in-Ok-Some.outcome s i.rules.longest next.1
+    (within-left object c.args.window.now) (length-left object c.args.window.now c.requires.within c.requires.small) (omega (arith, holds.size, c.requires.small))
     (sym c.in-Ok-Some.ensures.outcome ∙ c.in-Ok-Some.field-0-is) c.in-Ok-Some.ensures.bytes
 
 pub returns-in-Err-answer-clause-reply : goal.returns-in-Err-answer-clause-reply
@@ -89,6 +89,6 @@ returns-in-Err-answer-clause-reply g c = λ object tells holds.
     let s = i.told object tells holds in
     let next = given _ c.lines.window c.next.follows.lender-at-none c.next.result c.in-Ok.line _ _ object t c.in-Ok.is _ i.current tells s.holds in
     line_front g.K.FrameSink.wrap c.args.window.now.longest object (left object c.args.window.now) c.lines.window c.next.follows.lender-at-none c.lines.reply c.in-Ok.line
-    _ _ _ s i.rules.longest (i.rules.delimiter ∙ c.requires.delimiter) next.1
-    (length-left object c.args.window.now c.requires.within c.requires.small) (omega (arith, holds.size, c.requires.small))
+    _ _ _ s i.rules.longest next.1
+    (within-left object c.args.window.now) (length-left object c.args.window.now c.requires.within c.requires.small) (omega (arith, holds.size, c.requires.small))
     c.in-Err-answer.ensures.bytes

@@ -1,6 +1,6 @@
 use Rattle.std.proofs.Common.{◌≡◌, ℕ, ◌+◌, ◌-◌, ◌≤◌, List, false}
 use Rattle.select_ports.specs.Stored.{IsOpen}
-use Rattle.line_window.specs.Sliding.{Tells, Holds, IsSound, SameRules, Took, left, place}
+use Rattle.line_window.specs.Sliding.{Tells, Holds, IsSound, SameRules, Took, left}
 use Rattle.select_engine.specs.Streaming.{Streamed}
 use Rattle.select_engine.proofs.job.answer_lines.Given as goal
 
@@ -24,4 +24,4 @@ invariant-lines g l = record {
 }
 
 abbrev pub decreases-lines : goal.decreases-lines
-decreases-lines g l = l.window.last + 1 - place l.window
+decreases-lines g l = l.window.stop - l.window.place
