@@ -180,16 +180,6 @@ holds_nowhere text wanted u v nowhere = same_bool false (like (Any ∷ (letters 
 
 -- ---- the letters of a pattern
 
-pub letters_cons : (part : Part) (parts : List Part) → letters_in (part ∷ parts) ≡ letters_in (part ∷ []) ++ letters_in parts
-letters_cons (Char c) parts = refl
-letters_cons One parts = refl
-letters_cons Any parts = refl
-
-pub letters_step : (part : Part) (parts : List Part) (old new whole : List ℕ) → new ≡ old ++ encode_utf8_all (letters_in (part ∷ [])) → old ++ encode_utf8_all (letters_in (part ∷ parts)) ≡ whole → new ++ encode_utf8_all (letters_in parts) ≡ whole
-letters_step part parts old new whole e h =
-    ap (λ l. l ++ encode_utf8_all (letters_in parts)) e ∙ append_assoc old (encode_utf8_all (letters_in (part ∷ []))) (encode_utf8_all (letters_in parts))
-    ∙ ap (λ l. old ++ l) (sym (encodes-append (letters_in (part ∷ [])) (letters_in parts)) ∙ ap encode_utf8_all (sym (letters_cons part parts))) ∙ h
-
 pub shaped_chars : (shape : Shape) (parts : List Part) (bytes : List ℕ) → IsUtf8 bytes → bytes ≡ encode_utf8_all (letters_in parts) → IsShaped shape parts (letters_in parts) → IsShaped shape parts (chars bytes)
 shaped_chars shape parts bytes u e h =
     let P : List ℕ → Type 0 = λ cs. IsShaped shape parts cs in

@@ -118,10 +118,6 @@ pub trailing_nil : (p : ℕ → Bool) → trailing_by p [] ≡ []
 unfolding trailing_by
 trailing_nil p = refl
 
-leading_step : (b : Bool) (c : ℕ) (l cs ds : List ℕ) → b ≡ true → l ≡ ds → cond b l (c ∷ cs) ≡ ds
-leading_step true c l cs ds h e = e
-leading_step false c l cs ds h e = absurd (cc)
-
 pub trailing_in : (p : ℕ → Bool) (c : ℕ) (cs : List ℕ) → p c ≡ true → trailing_by p (cs ++ c ∷ []) ≡ trailing_by p cs
 unfolding trailing_by
 trailing_in p c cs h = ap (λ l. reverse (leading_by p l)) (reverse-append cs (c ∷ [])) ∙ ap reverse (ap (λ b. cond b (leading_by p (reverse cs)) (c ∷ reverse cs)) h)
@@ -175,14 +171,6 @@ no_bit n i e = rw (e, bit_at-zero i) refl
 pub none_marked : (n d : ℕ) → is_marked (replicate n 0) d ≡ false
 unfolding blank
 none_marked n d = no_bit (get_or (blank n) (d / 64) 0) (d % 64) (zeros n (d / 64))
-
-beyond : (words : List ℕ) (i : ℕ) → length words ≤ i → get_or words i 0 ≡ 0
-beyond [] i h = refl
-beyond (x ∷ words) zero h = absurd (omega arith)
-beyond (x ∷ words) (suc i) h = beyond words i (omega arith)
-
-pub not_marked : (words : List ℕ) (d : ℕ) → length words ≤ d / 64 → is_marked words d ≡ false
-not_marked words d h = no_bit (get_or words (d / 64) 0) (d % 64) (beyond words (d / 64) h)
 
 -- one more mark
 test_same : (c d : ℕ) → c ≡ d → (c == d) ≡ true
