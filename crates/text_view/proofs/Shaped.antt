@@ -1,5 +1,5 @@
 -- A pattern of characters with a "%" on one side, both or none is a search of bytes.
-use Rattle.std.proofs.Common.{◌≡◌, ℕ, ◌+◌, ◌≤◌, ◌<◌, Bool, true, false, ◌==◌, List, [], ◌∷◌, ◌++◌, take, drop, length, refl, sym, ◌∙◌, ap, subst, arith, append_assoc, length-append, slice_index}
+use Rattle.std.proofs.Common.{◌≡◌, ℕ, ◌+◌, ◌≤◌, ◌<◌, Bool, true, false, ◌==◌, List, [], ◌∷◌, ◌++◌, take, drop, length, refl, sym, ◌∙◌, ap, subst, arith, length-append, slice_index}
 use Rattle.std.proofs.lemmas.List.{take-append-drop}
 use Rattle.std.proofs.lemmas.Str.{encodes-chars, encodes-append, encodes_same, chars-append, IsUtf8-take, IsCharBoundary-at_seam, IsCharBoundary-start, length-le-encodes}
 use Rattle.std.proofs.lemmas.Bool.{cases_lt}
@@ -8,7 +8,7 @@ use Rattle.std.specs.Str.{chars, encode_utf8_all, IsUtf8, IsCharBoundary}
 use Rattle.memchr.specs.Find.{OccursAt, Nowhere}
 use Rattle.memchr.proofs.lemmas.MatchLemmas.{OccursAt-split, OccursAt-from_part}
 use Rattle.text_view.specs.declared.like.Part.{Part}
-use Rattle.text_view.specs.declared.like.Part.TheVariants.{Char, One, Any}
+use Rattle.text_view.specs.declared.like.Part.TheVariants.{Any}
 use Rattle.text_view.specs.declared.shapes.Shape.{Shape}
 use Rattle.text_view.specs.Shapes.{letters, letters_in, IsShaped}
 use Rattle.text_view.specs.Finding.{some_end, like}

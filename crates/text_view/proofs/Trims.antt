@@ -1,5 +1,5 @@
 -- A text without the characters of a set at its end, read from the front.
-use Rattle.std.proofs.Common.{◌≡◌, ℕ, zero, suc, ◌+◌, ◌*◌, ◌/◌, ◌%◌, ◌^◌, ◌<◌, ◌≤◌, ◌≢◌, ◌⊎◌, inl, inr, ◌==◌, ◌||◌, map, get_or, replicate, set, Bool, true, false, cond, List, [], ◌∷◌, ◌++◌, take, length, reverse, refl, sym, ◌∙◌, ap, arith}
+use Rattle.std.proofs.Common.{◌≡◌, ℕ, zero, suc, ◌+◌, ◌*◌, ◌/◌, ◌%◌, ◌^◌, ◌<◌, ◌≢◌, ◌⊎◌, inl, inr, ◌==◌, ◌||◌, map, get_or, replicate, set, Bool, true, false, cond, List, [], ◌∷◌, ◌++◌, take, length, reverse, refl, sym, ◌∙◌, ap, arith}
 use Rattle.std.proofs.lemmas.List.{reverse-append, reverse-reverse, length-reverse, map-append, get_or-set_same, get_or-set_other}
 use Rattle.text_view.specs.Trimmed.{contains, leading_by, trailing_by, trimmed_by, trimmed, without_leading, without_trailing, is_marked}
 use Rattle.text_view.specs.Spelled.{kept_after}
@@ -111,6 +111,15 @@ front_or (d ∷ ds) cs h = let e : 0 + length (d ∷ ds) ≡ length (d ∷ ds) =
 
 pub kept_is : (p : ℕ → Bool) (cs : List ℕ) → take (kept_after p 0 0 cs) cs ≡ trailing_by p cs
 kept_is p cs = rw (kept_end p 0 0 cs, trailing_ended p cs) (front_or (ended p cs) cs (front_ended p cs))
+
+-- ---- a text from its front, in a letter case
+
+pub front_in : (p : ℕ → Bool) (f : ℕ → ℕ) (text behind : List ℕ) (c : ℕ) → text ≡ c ∷ behind → p (f c) ≡ true → leading_by p (map f text) ≡ leading_by p (map f behind)
+front_in p f text behind c e h = ap (λ l. leading_by p (map f l)) e ∙ ap (λ b. cond b (leading_by p (map f behind)) (f c ∷ map f behind)) h
+
+pub front_out : (p : ℕ → Bool) (f : ℕ → ℕ) (text behind : List ℕ) (c : ℕ) → text ≡ c ∷ behind → p (f c) ≡ false → leading_by p (map f text) ≡ map f text
+front_out p f text behind c e h =
+    ap (λ l. leading_by p (map f l)) e ∙ ap (λ b. cond b (leading_by p (map f behind)) (f c ∷ map f behind)) h ∙ ap (map f) (sym e)
 
 -- ---- a text from its end
 

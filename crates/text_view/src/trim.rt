@@ -4,7 +4,7 @@ ghost use Rattle.std.specs.Str.{chars};
 ghost use Rattle.text_view.specs.Trimmed.{contains, trimmed, trimmed_by, leading_by, trailing_by, is_marked};
 ghost use Rattle.text_view.specs.Spelled.{seen, cased, kept_after};
 
-use crate::characters::split_last;
+use crate::characters::{split_char, split_last};
 use crate::cursor::{Case, Cursor};
 use crate::view::Side;
 
@@ -54,6 +54,17 @@ impl<'r> Cursor<'r> {
     fn trim_start(&mut self, marks: &[u64])
         ensures { seen self.new ≡ leading_by (is_marked marks.now) (seen self.old) }
     {
+        if let Some(text) = self.uncased() {
+            let case = self.case;
+            *self = Cursor::in_case(without_front(text, case, marks), case);
+            return;
+        }
+        self.pass_marked(marks);
+    }
+
+    fn pass_marked(&mut self, marks: &[u64])
+        ensures { seen self.new ≡ leading_by (is_marked marks.now) (seen self.old) }
+    {
         let mut ahead = *self;
         'each: while let Some(c) = ahead.next() {
             if !is_marked(marks, c) {
@@ -98,6 +109,21 @@ impl<'r> Cursor<'r> {
         }
         kept
     }
+}
+
+/// The text from its first character that isn't marked in that case.
+fn without_front<'r>(text: &'r str, case: Case, marks: &[u64]) -> &'r str
+    ensures { map (cased case) (chars result.now)
+        ≡ leading_by (is_marked marks.now) (map (cased case) (chars text.now)) }
+{
+    let mut left = text;
+    'each: while let Some((first, behind)) = split_char(left) {
+        if !is_marked(marks, case.of(first)) {
+            return left;
+        }
+        left = behind;
+    }
+    left
 }
 
 /// The text up to its last character that isn't marked in that case.

@@ -1,7 +1,7 @@
 use Rattle.std.proofs.Common.{◌≡◌, length}
 use Rattle.text_view.specs.Spelled.{seen}
 use Rattle.text_view.specs.Trimmed.{leading_by, is_marked}
-use Rattle.text_view.proofs.cursor.Cursor.trim_start.Given as goal
+use Rattle.text_view.proofs.cursor.Cursor.pass_marked.Given as goal
 
 abbrev pub invariant-each : goal.invariant-each
 invariant-each l = record {
