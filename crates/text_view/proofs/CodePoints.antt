@@ -73,13 +73,13 @@ above : (c n : ℕ) → n ≤ c → nat_lt c n ≡ false
 above c n h = grind (arith, nat_tests)
 
 -- how many bytes a character takes
-data Width : ℕ → Type 0 where
+pub data Width : ℕ → Type 0 where
   one : {c : ℕ} → c < 128 → Width c
   two : {c : ℕ} → 128 ≤ c → c < 2048 → Width c
   three : {c : ℕ} → 2048 ≤ c → c < 65536 → Width c
   four : {c : ℕ} → 65536 ≤ c → Width c
 
-width : (c : ℕ) → Width c
+pub width : (c : ℕ) → Width c
 width c = elim (cases_lt c 128) [
   | inl h ↦ one h
   | inr h ↦ elim (cases_lt c 2048) [
@@ -88,21 +88,21 @@ width c = elim (cases_lt c 128) [
   ]
 ]
 
-encode_one : (c : ℕ) → c < 128 → encode c ≡ c ∷ []
+pub encode_one : (c : ℕ) → c < 128 → encode c ≡ c ∷ []
 unfolding encode
 encode_one c h = rw (below c 128 h) refl
 
-encode_two : (c : ℕ) → 128 ≤ c → c < 2048 → encode c ≡ (192 + c / 64) ∷ (128 + c % 64) ∷ []
+pub encode_two : (c : ℕ) → 128 ≤ c → c < 2048 → encode c ≡ (192 + c / 64) ∷ (128 + c % 64) ∷ []
 unfolding encode
 encode_two c h g = rw (above c 128 h, below c 2048 g) refl
 
-encode_three : (c : ℕ) → 2048 ≤ c → c < 65536 → encode c ≡ (224 + (c / 64) / 64) ∷ (128 + (c / 64) % 64) ∷ (128 + c % 64) ∷ []
+pub encode_three : (c : ℕ) → 2048 ≤ c → c < 65536 → encode c ≡ (224 + (c / 64) / 64) ∷ (128 + (c / 64) % 64) ∷ (128 + c % 64) ∷ []
 unfolding encode
 encode_three c h g =
     let e : c / 4096 ≡ (c / 64) / 64 = omega arith in
     rw (above c 128 (omega arith), above c 2048 h, below c 65536 g, e) refl
 
-encode_four : (c : ℕ) → 65536 ≤ c → encode c ≡ (240 + ((c / 64) / 64) / 64) ∷ (128 + ((c / 64) / 64) % 64) ∷ (128 + (c / 64) % 64) ∷ (128 + c % 64) ∷ []
+pub encode_four : (c : ℕ) → 65536 ≤ c → encode c ≡ (240 + ((c / 64) / 64) / 64) ∷ (128 + ((c / 64) / 64) % 64) ∷ (128 + (c / 64) % 64) ∷ (128 + c % 64) ∷ []
 unfolding encode
 encode_four c h =
     let e : c / 4096 ≡ (c / 64) / 64 = omega arith in

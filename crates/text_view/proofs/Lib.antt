@@ -1,9 +1,12 @@
+pub mod Cases
 pub mod CodePoints
+pub mod Counts
 pub mod Escapes
 pub mod Grammars
 pub mod Likes
 pub mod Patterns
+pub mod Slices
 pub mod Runs
+pub mod Shaped
 pub mod Shown
-pub mod Sizes
 pub mod Trims

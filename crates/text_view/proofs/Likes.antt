@@ -28,22 +28,22 @@ or_cases : (x y : Bool) → (x || y) ≡ true → (x ≡ true) ⊎ (y ≡ true)
 or_cases true y e = inl refl
 or_cases false y e = inr e
 
-and_left : (x y : Bool) → (x && y) ≡ true → x ≡ true
+pub and_left : (x y : Bool) → (x && y) ≡ true → x ≡ true
 and_left true y e = refl
 and_left false y e = absurd (cc)
 
-and_right : (x y : Bool) → (x && y) ≡ true → y ≡ true
+pub and_right : (x y : Bool) → (x && y) ≡ true → y ≡ true
 and_right true y e = e
 and_right false y e = absurd (cc)
 
-same_bool : (x y : Bool) → (x ≡ true → y ≡ true) → (y ≡ true → x ≡ true) → x ≡ y
+pub same_bool : (x y : Bool) → (x ≡ true → y ≡ true) → (y ≡ true → x ≡ true) → x ≡ y
 same_bool true true f g = refl
 same_bool true false f g = sym (f refl)
 same_bool false true f g = g refl
 same_bool false false f g = refl
 
 -- the whole text is an end of it
-some_end_whole : (f : List ℕ → Bool) (cs : List ℕ) → f cs ≡ true → some_end f cs ≡ true
+pub some_end_whole : (f : List ℕ → Bool) (cs : List ℕ) → f cs ≡ true → some_end f cs ≡ true
 some_end_whole f [] e = e
 some_end_whole f (c ∷ cs) e = or_true_left (f (c ∷ cs)) (some_end f cs) e
 
@@ -53,20 +53,20 @@ some_end_drop f zero cs e = e
 some_end_drop f (suc k) [] e = e
 some_end_drop f (suc k) (c ∷ cs) e = or_true_right (f (c ∷ cs)) (some_end f cs) (some_end_drop f k cs e)
 
-some_end_append : (f : List ℕ → Bool) (xs cs : List ℕ) → some_end f cs ≡ true → some_end f (xs ++ cs) ≡ true
+pub some_end_append : (f : List ℕ → Bool) (xs cs : List ℕ) → some_end f cs ≡ true → some_end f (xs ++ cs) ≡ true
 some_end_append f [] cs e = e
 some_end_append f (x ∷ xs) cs e = or_true_right (f (x ∷ xs ++ cs)) (some_end f (xs ++ cs)) (some_end_append f xs cs e)
 
 -- the end that passes
-record EndAt (f : List ℕ → Bool) (cs : List ℕ) : Type 0 where
-  front : List ℕ
-  back : List ℕ
-  whole : front ++ back ≡ cs
-  place : ℕ
-  there : back ≡ drop place cs
-  passes : f back ≡ true
+pub record EndAt (f : List ℕ → Bool) (cs : List ℕ) : Type 0 where
+  pub front : List ℕ
+  pub back : List ℕ
+  pub whole : front ++ back ≡ cs
+  pub place : ℕ
+  pub there : back ≡ drop place cs
+  pub passes : f back ≡ true
 
-end_at : (f : List ℕ → Bool) (cs : List ℕ) → some_end f cs ≡ true → EndAt f cs
+pub end_at : (f : List ℕ → Bool) (cs : List ℕ) → some_end f cs ≡ true → EndAt f cs
 end_at f [] e = record { front = []; back = []; whole = refl; place = 0; there = refl; passes = e }
 end_at f (c ∷ cs) e = elim (or_cases (f (c ∷ cs)) (some_end f cs) e) [
   | inl h ↦ record { front = []; back = c ∷ cs; whole = refl; place = 0; there = refl; passes = h }
@@ -78,10 +78,10 @@ end_at f (c ∷ cs) e = elim (or_cases (f (c ∷ cs)) (some_end f cs) e) [
 
 -- ---- the test and the splits
 
-test_same : (w c : ℕ) → (c == w) ≡ true → w ≡ c
+pub test_same : (w c : ℕ) → (c == w) ≡ true → w ≡ c
 test_same w c e = grind (arith, nat_tests)
 
-test_self : (w : ℕ) → (w == w) ≡ true
+pub test_self : (w : ℕ) → (w == w) ≡ true
 test_self w = grind (arith, nat_tests)
 
 split_any : (parts : List Part) (cs : List ℕ) (r : EndAt (like parts) cs) → Matches parts r.back → Matches (Any ∷ parts) cs

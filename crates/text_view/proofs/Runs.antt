@@ -1,22 +1,23 @@
 -- Runs of characters that stand for themselves, in bytes and in characters.
-use Rattle.std.proofs.Common.{◌≡◌, ℕ, zero, suc, ◌+◌, ◌-◌, ◌≤◌, ◌<◌, Bool, true, false, ◌||◌, ◌==◌, List, [], ◌∷◌, ◌++◌, take, drop, length, refl, sym, ◌∙◌, ap, subst, arith, length-append, slice_index, slice_range}
+use Rattle.std.proofs.Common.{◌≡◌, ℕ, zero, suc, ◌+◌, ◌-◌, ◌≤◌, ◌<◌, Bool, true, false, ◌||◌, ◌==◌, List, [], ◌∷◌, ◌++◌, map, take, drop, length, refl, sym, ◌∙◌, ap, subst, arith, append_assoc, length-append, length-take, slice_index, slice_range, Result, Ok, Err, IsOk, OnOk, OnErr, inl, inr}
+use Rattle.std.proofs.lemmas.Bool.{cases_lt}
+use Rattle.text_view.proofs.Counts.{take_front, drop_front}
 use Rattle.std.proofs.lemmas.Bool.Decides.{nat_tests}
 use Rattle.std.proofs.lemmas.List.{take-append-drop, append-nil, take_all}
-use Rattle.std.proofs.lemmas.Str.{encodes-chars, encodes-append, encode_ascii, chars-append, IsUtf8-take, IsUtf8-drop, chars-nil, IsCharBoundary-before_ascii, IsCharBoundary-end, IsCharBoundary-start}
+use Rattle.std.proofs.lemmas.Str.{encodes-chars, encode_ascii, chars-append, IsUtf8-take, IsUtf8-drop, IsUtf8-append, IsCharBoundary-at_seam, chars-nil, IsCharBoundary-before_ascii, IsCharBoundary-end, IsCharBoundary-start}
 use Rattle.std.specs.Str.{chars, encode_utf8_all, IsUtf8, IsCharBoundary, NonePass}
 use Rattle.memchr.specs.Find.{is_byte, is_byte2, Passes, Nowhere, NoneBefore}
 use Rattle.text_view.specs.Writing.{StandsForItself, WritesFront}
 use Rattle.std.specs.Char.{encode_utf8}
 use Rattle.text_view.specs.declared.cursor.Case.{Case}
-use Rattle.text_view.specs.declared.cursor.Case.TheVariants.{Kept}
 use Rattle.text_view.specs.declared.cursor.Escape.{Escape}
 use Rattle.text_view.specs.declared.cursor.Escape.TheVariants.{Plain, Quoted, Json}
 use Rattle.text_view.specs.QuotedField.{unquoted}
 use Rattle.text_view.specs.JsonString.{unescaped_text}
-use Rattle.text_view.specs.Spelled.{shown, spelled, special}
+use Rattle.text_view.specs.Spelled.{shown, cased, spelled, special}
 use Rattle.text_view.specs.Room.{Room}
 use Rattle.text_view.proofs.Escapes.{unquoted_nil, unescaped_nil, unquoted_cons, unescaped_by_test}
-use Rattle.text_view.proofs.Shown.{shown_nil, shown_all, length_spelled, length_chars}
+use Rattle.text_view.proofs.Shown.{shown_nil, shown_append, shown_enough, chars_short, length_spelled}
 
 -- ---- bytes and characters
 
@@ -24,11 +25,11 @@ take_none : (bs : List ℕ) → take 0 bs ≡ []
 take_none [] = refl
 take_none (b ∷ bs) = refl
 
-none_left : (p : ℕ → Bool) (xs ys : List ℕ) → NonePass p (xs ++ ys) → NonePass p xs
+pub none_left : (p : ℕ → Bool) (xs ys : List ℕ) → NonePass p (xs ++ ys) → NonePass p xs
 none_left p [] ys h = tt
 none_left p (x ∷ xs) ys h = (h.0, none_left p xs ys h.1)
 
-none_right : (p : ℕ → Bool) (xs ys : List ℕ) → NonePass p (xs ++ ys) → NonePass p ys
+pub none_right : (p : ℕ → Bool) (xs ys : List ℕ) → NonePass p (xs ++ ys) → NonePass p ys
 none_right p [] ys h = h
 none_right p (x ∷ xs) ys h = none_right p xs ys h.1
 
@@ -75,6 +76,11 @@ whole_own p bs low u nowhere = record {
   own = none_passes p (take (length bs) bs) low (IsUtf8-take bs (length bs) u (IsCharBoundary-end bs)) (none_front p (length bs) bs (λ k l. nowhere k (omega arith) l));
 }
 
+-- no byte passes: no character does
+pub all_own : (p : ℕ → Bool) (bs : List ℕ) → ((c : ℕ) → p c ≡ true → c < 128) → IsUtf8 bs → Nowhere (Passes p bs) 0 (length bs) → NonePass p (chars bs)
+all_own p bs low u nowhere =
+    none_passes p bs low u (let P : List ℕ → Type 0 = NonePass p in subst P (take_all (length bs) bs (omega arith)) (none_front p (length bs) bs (λ k l. nowhere k (omega arith) l)))
+
 none_at_all : (cs : List ℕ) → NonePass (λ c. false) cs
 none_at_all [] = tt
 none_at_all (c ∷ cs) = (refl, none_at_all cs)
@@ -85,10 +91,10 @@ plain_own bs = record { boundary = IsCharBoundary-end bs; own = none_at_all (cha
 pub nothing_own : (p : ℕ → Bool) (bs : List ℕ) → IsUtf8 bs → StandsForItself p bs 0
 nothing_own p bs u = record { boundary = IsCharBoundary-start bs u; own = subst (NonePass p) (sym (ap chars (take_none bs) ∙ chars-nil)) tt }
 
-solidus_low : (c : ℕ) → is_byte 92 c ≡ true → c < 128
+pub solidus_low : (c : ℕ) → is_byte 92 c ≡ true → c < 128
 solidus_low c e = grind (arith, nat_tests)
 
-special_low : (q e c : ℕ) → q < 128 → e < 128 → is_byte2 q e c ≡ true → c < 128
+pub special_low : (q e c : ℕ) → q < 128 → e < 128 → is_byte2 q e c ≡ true → c < 128
 special_low q e c h g t = grind (arith, nat_tests)
 
 byte_low : (w c : ℕ) → w < 128 → is_byte w c ≡ true → c < 128
@@ -116,14 +122,14 @@ or_right : (x y : Bool) → (x || y) ≡ false → y ≡ false
 or_right true y e = absurd (cc)
 or_right false y e = e
 
-unquoted_run : (q e : ℕ) (xs ys : List ℕ) → NonePass (λ c. c == q || c == e) xs → unquoted q e (xs ++ ys) ≡ xs ++ unquoted q e ys
+pub unquoted_run : (q e : ℕ) (xs ys : List ℕ) → NonePass (λ c. c == q || c == e) xs → unquoted q e (xs ++ ys) ≡ xs ++ unquoted q e ys
 unquoted_run q e [] ys h = refl
 unquoted_run q e (c ∷ xs) ys h =
     let f : (c == q) ≡ false = or_left (c == q) (c == e) h.0 in
     let g : (c == e) ≡ false = or_right (c == q) (c == e) h.0 in
     unquoted_cons q e c (xs ++ ys) ∙ rw (g, f) (ap (λ t. c ∷ t) (unquoted_run q e xs ys h.1))
 
-unescaped_run : (xs ys : List ℕ) → NonePass (λ c. c == 92) xs → unescaped_text (xs ++ ys) ≡ xs ++ unescaped_text ys
+pub unescaped_run : (xs ys : List ℕ) → NonePass (λ c. c == 92) xs → unescaped_text (xs ++ ys) ≡ xs ++ unescaped_text ys
 unescaped_run [] ys h = refl
 unescaped_run (c ∷ xs) ys h = unescaped_by_test c (xs ++ ys) h.0 ∙ ap (λ t. c ∷ t) (unescaped_run xs ys h.1)
 
@@ -132,19 +138,73 @@ spelled_run Plain xs ys h = refl
 spelled_run (Quoted q e) xs ys h = unquoted_run q e xs ys h
 spelled_run Json xs ys h = unescaped_run xs ys h
 
--- ---- a run of bytes, written as it is
+-- ---- a run of bytes, shown in a letter case
 
-pub run_written : (e : Escape) (n limit : ℕ) (bs : List ℕ) → IsUtf8 bs → length bs ≤ limit → StandsForItself (special e) bs n
-    → encode_utf8_all (shown Kept limit (spelled e (chars bs))) ≡ take n bs ++ encode_utf8_all (shown Kept limit (spelled e (chars (drop n bs))))
-run_written e n limit bs u room run =
-    let front : IsUtf8 (take n bs) = IsUtf8-take bs n u run.boundary in
-    let back : IsUtf8 (drop n bs) = IsUtf8-drop bs n u run.boundary in
-    let whole : chars bs ≡ chars (take n bs) ++ chars (drop n bs) = ap chars (sym (take-append-drop n bs)) ∙ chars-append (take n bs) (drop n bs) front in
-    let split : spelled e (chars bs) ≡ chars (take n bs) ++ spelled e (chars (drop n bs)) = ap (spelled e) whole ∙ spelled_run e (chars (take n bs)) (chars (drop n bs)) run.own in
-    let left : shown Kept limit (spelled e (chars bs)) ≡ spelled e (chars bs) = shown_all limit (spelled e (chars bs)) (omega (arith, length_spelled e (chars bs), length_chars bs u)) in
-    let right : shown Kept limit (spelled e (chars (drop n bs))) ≡ spelled e (chars (drop n bs)) =
-    shown_all limit (spelled e (chars (drop n bs))) (omega (arith, length_spelled e (chars (drop n bs)), length_chars (drop n bs) back, ap length (take-append-drop n bs), length-append (take n bs) (drop n bs))) in
-    rw (left, right, split) (encodes-append (chars (take n bs)) (spelled e (chars (drop n bs))) ∙ ap (λ t. t ++ encode_utf8_all (spelled e (chars (drop n bs)))) (encodes-chars (take n bs) front))
+-- a front that stands for itself, and how many characters are left to count
+pub run_front : (k : Case) (e : Escape) (n : ℕ) (text run rest : List ℕ) → IsUtf8 run → text ≡ run ++ rest → NonePass (special e) (chars run) → length (chars run) ≤ n
+    → shown k n (spelled e (chars text)) ≡ map (cased k) (chars run) ++ shown k (n - length (chars run)) (spelled e (chars rest))
+run_front k e n text run rest u split own fits =
+    let apart : spelled e (chars text) ≡ chars run ++ spelled e (chars rest) = ap (λ l. spelled e (chars l)) split ∙ ap (spelled e) (chars-append run rest u) ∙ spelled_run e (chars run) (chars rest) own in
+    ap (shown k n) apart ∙ shown_append k n (chars run) (spelled e (chars rest)) fits
+
+-- the same where all characters count
+pub run_whole : (k : Case) (e : Escape) (n len : ℕ) (text : List ℕ) → IsUtf8 text → length text ≤ n → StandsForItself (special e) text len
+    → shown k n (spelled e (chars text)) ≡ map (cased k) (chars (take len text)) ++ shown k n (spelled e (chars (drop len text)))
+run_whole k e n len text u room run =
+    let front : List ℕ = take len text in
+    let back : List ℕ = drop len text in
+    let split : text ≡ front ++ back = sym (take-append-drop len text) in
+    let short : length (chars front) + length (spelled e (chars back)) ≤ n = omega (arith, chars_short front, length_spelled e (chars back), chars_short back, ap length split, length-append front back) in
+    run_front k e n text front back (IsUtf8-take text len u run.boundary) split run.own (omega arith)
+    ∙ ap (λ l. map (cased k) (chars front) ++ l) (shown_enough k (n - length (chars front)) (spelled e (chars back)) (omega arith) ∙ sym (shown_enough k n (spelled e (chars back)) (omega arith)))
+
+-- a front of a front
+pub own_front : (p : ℕ → Bool) (xs run rest : List ℕ) → IsUtf8 run → xs ≡ run ++ rest → NonePass p (chars xs) → NonePass p (chars run)
+own_front p xs run rest u e h = none_left p (chars run) (chars rest) (let P : List ℕ → Type 0 = NonePass p in subst P (ap chars e ∙ chars-append run rest u) h)
+
+pub range_is : (n : ℕ) (bs : List ℕ) → slice_range bs 0 n ≡ take n bs
+range_is n [] = let e : n - 0 ≡ n = omega arith in ap (λ m. take m []) e
+range_is n (b ∷ bs) = let e : n - 0 ≡ n = omega arith in ap (λ m. take m (b ∷ bs)) e
+
+-- a part of a front, and the text from there on
+pub record Parted (rest run behind : List ℕ) (len : ℕ) : Type 0 where
+  pub boundary : IsCharBoundary rest (length run)
+  pub split : rest ≡ run ++ drop (length run) rest
+
+pub parted : (rest front run behind : List ℕ) (len : ℕ) → IsUtf8 rest → IsCharBoundary rest len → front ≡ slice_range rest 0 len → front ≡ run ++ behind → IsUtf8 behind → Parted rest run behind len
+parted rest front run behind len u at range parts v =
+    let back : List ℕ = behind ++ drop len rest in
+    let whole : rest ≡ run ++ back = sym (take-append-drop len rest) ∙ ap (λ l. l ++ drop len rest) (sym (range_is len rest) ∙ sym range ∙ parts) ∙ append_assoc run behind (drop len rest) in
+    record {
+      boundary = IsCharBoundary-at_seam rest run back whole (IsUtf8-append behind (drop len rest) v (IsUtf8-drop rest len u at));
+      split = whole ∙ ap (λ l. run ++ l) (sym (ap (drop (length run)) whole ∙ drop_front run back (length run) refl));
+    }
+
+pub run_cut : (k : Case) (e : Escape) (n len : ℕ) (rest front run behind : List ℕ) → IsUtf8 rest → StandsForItself (special e) rest len → front ≡ slice_range rest 0 len → front ≡ run ++ behind → IsUtf8 run → IsUtf8 behind → chars run ≡ take n (chars front)
+    → shown k n (spelled e (chars rest)) ≡ map (cased k) (chars run) ++ shown k (n - length (chars run)) (spelled e (chars (drop (length run) rest)))
+run_cut k e n len rest front run behind u own range parts v w cut =
+    let P : List ℕ → Type 0 = λ l. NonePass (special e) (chars l) in
+    let same : take len rest ≡ front = sym (range ∙ range_is len rest) in
+    run_front k e n rest run (drop (length run) rest) v (parted rest front run behind len u own.boundary range parts w).split
+    (own_front (special e) front run behind v parts (subst P same own.own))
+    (omega (arith, ap length cut, length-take n (chars front)))
+
+filled : (cs bs : List ℕ) → encode_utf8_all cs ≡ bs → 0 < length bs → 0 < length cs
+filled [] bs e h = absurd (omega (arith, ap length e))
+filled (c ∷ cs) bs e h = omega arith
+
+pub filled_chars : (bs : List ℕ) → IsUtf8 bs → 0 < length bs → 0 < length (chars bs)
+filled_chars bs u h = filled (chars bs) bs (encodes-chars bs u) h
+
+pub no_run : (k : Case) (run was left : List ℕ) → was ≡ map (cased k) (chars run) ++ left → run ≡ [] → left ≡ was
+no_run k run was left e h = sym (e ∙ ap (λ l. map (cased k) l ++ left) (ap chars h ∙ chars-nil))
+
+map_length : (f : ℕ → ℕ) (xs : List ℕ) → length (map f xs) ≡ length xs
+map_length f [] = refl
+map_length f (x ∷ xs) = ap suc (map_length f xs)
+
+pub run_length : (k : Case) (run was left : List ℕ) → was ≡ map (cased k) (chars run) ++ left → length was ≡ length (chars run) + length left
+run_length k run was left e = omega (arith, ap length e, length-append (map (cased k) (chars run)) left, map_length (cased k) (chars run))
 
 -- ---- a text that is written in pieces
 
@@ -156,10 +216,42 @@ spelled_nil Json = rw chars-nil unescaped_nil
 pub shown_empty : (k : Case) (n : ℕ) (e : Escape) (bs : List ℕ) → bs ≡ [] → encode_utf8_all (shown k n (spelled e (chars bs))) ≡ []
 shown_empty k n e bs h = rw (h, spelled_nil e, shown_nil k n) refl
 
+-- a piece that is pushed
+pub wrote : {T E : Type 0} (r : Result T E) (old new : Room) (piece was left : List ℕ) → was ≡ piece ++ left → (IsOk r → length old.bytes + length piece ≤ old.room) → OnOk r (new ≡ record { room = old.room; bytes = old.bytes ++ piece }) → OnOk r (WritesFront old new was left)
+wrote (Ok v) old new piece was left split fits is = let P : Room → Type 0 = λ r. WritesFront old r was left in subst P (sym is) (record {
+  bytes = append_assoc old.bytes piece left ∙ ap (λ l. old.bytes ++ l) (sym split);
+  room = refl;
+  front = take_front old.bytes piece (length old.bytes) refl;
+  fits = λ h. omega (arith, fits refl, length-append old.bytes piece);
+})
+wrote (Err e) old new piece was left split fits is = tt
+
+not_within : (old : Room) (piece was left : List ℕ) → was ≡ piece ++ left → (length old.bytes + length piece ≤ old.room → ⊥) → old.room < length old.bytes + length was
+not_within old piece was left split fails = elim (cases_lt old.room (length old.bytes + length was)) [
+  | inl h ↦ h
+  | inr h ↦ absurd (fails (omega (arith, ap length split, length-append piece left)))
+]
+
+pub overflows : {T E : Type 0} (r : Result T E) (old : Room) (piece was left : List ℕ) → was ≡ piece ++ left → (length old.bytes + length piece ≤ old.room → IsOk r) → OnErr r (old.room < length old.bytes + length was)
+overflows (Ok v) old piece was left split fits = tt
+overflows (Err e) old piece was left split fits = not_within old piece was left split (λ h. absurd (let f : false ≡ true = fits h in cc))
+
+-- a buffer that is cut back to what it was
+pub restored : (old mid now after : Room) (n : ℕ) → n ≡ length old.bytes → after ≡ record { room = mid.room; bytes = take n mid.bytes } → mid ≡ now → take (length old.bytes) now.bytes ≡ old.bytes → IsUtf8 old.bytes → IsUtf8 after.bytes
+restored old mid now after n size is same front u =
+    let P : List ℕ → Type 0 = IsUtf8 in
+    let e : after.bytes ≡ old.bytes = ap (λ (r : Room). r.bytes) is ∙ ap (λ m. take m mid.bytes) size ∙ ap (λ (r : Room). take (length old.bytes) r.bytes) same ∙ front in
+    subst P (sym e) u
+
+-- what is pushed where only texts were
+pub pushed : {T E : Type 0} (r : Result T E) (old new : Room) (text : List ℕ) → IsUtf8 text → OnOk r (new ≡ record { room = old.room; bytes = old.bytes ++ text }) → OnErr r (new ≡ old) → IsUtf8 old.bytes → IsUtf8 new.bytes
+pushed (Ok v) old new text u is same h = let P : Room → Type 0 = λ r. IsUtf8 r.bytes in subst P (sym is) (IsUtf8-append old.bytes text h u)
+pushed (Err e) old new text u is same h = let P : Room → Type 0 = λ r. IsUtf8 r.bytes in subst P (sym same) h
+
 -- nothing was to come
-pub writes_nothing : (room : Room) (was run middle left : List ℕ) → was ≡ run ++ middle → run ≡ [] → middle ≡ [] → left ≡ [] → WritesFront room room was left
-writes_nothing room was run middle left e r m l = record {
-  bytes = rw (l, e, r, m) refl;
+pub writes_nothing : (room : Room) (was left : List ℕ) → was ≡ [] → left ≡ [] → WritesFront room room was left
+writes_nothing room was left e l = record {
+  bytes = rw (l, e) refl;
   room = refl;
   front = take_all (length room.bytes) room.bytes (omega arith);
   fits = λ h. h;
@@ -179,16 +271,16 @@ written_whole old new was left w e =
     let bytes : new.bytes ≡ old.bytes ++ was = sym (append-nil new.bytes) ∙ ap (λ l. new.bytes ++ l) (sym e) ∙ w.bytes in
     (λ i. record { room = w.room i; bytes = bytes i })
 
-pub range_is : (n : ℕ) (bs : List ℕ) → slice_range bs 0 n ≡ take n bs
-range_is n [] = let e : n - 0 ≡ n = omega arith in ap (λ m. take m []) e
-range_is n (b ∷ bs) = let e : n - 0 ≡ n = omega arith in ap (λ m. take m (b ∷ bs)) e
-
 filled_test : (n : ℕ) → (suc n == 0) ≡ true → ⊥
 filled_test n f = grind (arith, nat_tests)
 
 pub nil_from_test : (bs : List ℕ) (b : Bool) → b ≡ (length bs == 0) → b ≡ true → bs ≡ []
 nil_from_test [] b e t = refl
 nil_from_test (x ∷ bs) b e t = let f : (length (x ∷ bs) == 0) ≡ true = sym e ∙ t in absurd (filled_test (length bs) f)
+
+pub filled_from_test : (bs : List ℕ) (b : Bool) → b ≡ (length bs == 0) → b ≡ false → 0 < length bs
+filled_from_test [] b e t = let f : true ≡ false = sym e ∙ t in absurd (cc)
+filled_from_test (x ∷ bs) b e t = omega arith
 
 pub byte_found : (w : ℕ) (bs : List ℕ) (n : ℕ) → w < 128 → IsUtf8 bs → NoneBefore (Passes (is_byte w) bs) 0 (length bs) n × Passes (is_byte w) bs n → StandsForItself (is_byte w) bs n
 byte_found w bs n low u h = found_own (is_byte w) bs n (λ c t. byte_low w c low t) u h

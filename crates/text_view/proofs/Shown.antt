@@ -1,16 +1,17 @@
 -- The characters that a cursor shows, one step at a time.
-use Rattle.std.proofs.Common.{◌≡◌, ℕ, zero, suc, ◌-◌, ◌≤◌, ◌<◌, min, List, [], ◌∷◌, map, take, length, refl, sym, ap, arith}
+use Rattle.std.proofs.Common.{◌≡◌, ℕ, zero, suc, ◌-◌, ◌+◌, ◌*◌, ◌≤◌, ◌<◌, min, List, [], ◌∷◌, ◌++◌, map, take, length, refl, sym, ap, arith}
 use Rattle.std.proofs.lemmas.Bool.Decides.{nat_tests}
 use Rattle.std.proofs.lemmas.List.{take_all}
 use Rattle.std.proofs.lemmas.Str.{encodes-chars, length-le-encodes}
 use Rattle.std.proofs.lemmas.Str.Ascii.{uppercase-uppercase, lowercase-lowercase, lowercase-uppercase}
-use Rattle.std.specs.Str.{chars, IsUtf8}
+use Rattle.std.specs.Str.{chars, chars_after, continuation_len, lead_bits, IsUtf8}
 use Rattle.std.specs.Char.{to_ascii_uppercase, to_ascii_lowercase}
 use Rattle.text_view.specs.declared.cursor.Case.{Case}
 use Rattle.text_view.specs.declared.cursor.Case.TheVariants.{Kept, Upper, Lower}
+use Rattle.text_view.specs.declared.cursor.Cursor.{Cursor}
 use Rattle.text_view.specs.declared.cursor.Escape.{Escape}
 use Rattle.text_view.specs.declared.cursor.Escape.TheVariants.{Plain, Quoted, Json}
-use Rattle.text_view.specs.Spelled.{shown, cased, spelled}
+use Rattle.text_view.specs.Spelled.{shown, cased, spelled, seen}
 use Rattle.text_view.proofs.Escapes.{length_unquoted, length_unescaped}
 
 take-nil : (n : ℕ) → take {A = ℕ} n [] ≡ []
@@ -75,7 +76,7 @@ shown_lower k n cs = map_map to_ascii_lowercase to_ascii_lowercase (cased k) (lo
 
 -- ---- all of a text
 
-map_same : (cs : List ℕ) → map (λ c. c) cs ≡ cs
+pub map_same : (cs : List ℕ) → map (λ c. c) cs ≡ cs
 map_same [] = refl
 map_same (c ∷ cs) = ap (λ t. c ∷ t) (map_same cs)
 
@@ -96,3 +97,44 @@ shown_spelled e n bs u h = shown_all n (spelled e (chars bs)) (omega (arith, len
 
 pub shown_whole : (n : ℕ) (bs : List ℕ) → IsUtf8 bs → length bs ≤ n → shown Kept n (chars bs) ≡ chars bs
 shown_whole n bs u h = shown_spelled Plain n bs u h
+
+-- ---- no text is longer than the bytes that it stands in
+
+after_short : (n c : ℕ) (bs : List ℕ) → length (chars_after n c bs) ≤ suc (length bs)
+after_short zero c [] = omega arith
+after_short zero c (b ∷ bs) = omega (arith, after_short (continuation_len b) (lead_bits b) bs)
+after_short (suc n) c [] = omega arith
+after_short (suc n) c (b ∷ bs) = omega (arith, after_short n (c * 64 + (b - 128)) bs)
+
+pub chars_short : (bs : List ℕ) → length (chars bs) ≤ length bs
+unfolding chars
+chars_short [] = omega arith
+chars_short (b ∷ bs) = after_short (continuation_len b) (lead_bits b) bs
+
+shown_short : (k : Case) (n : ℕ) (cs : List ℕ) → length (shown k n cs) ≤ length cs
+unfolding shown
+shown_short k zero cs = omega arith
+shown_short k (suc n) [] = omega arith
+shown_short k (suc n) (c ∷ cs) = omega (arith, shown_short k n cs)
+
+pub length_seen : (c : Cursor) → length (seen c) ≤ length c.rest.now
+length_seen c = omega (arith, shown_short c.case c.limit (spelled c.escape (chars c.rest.now)), length_spelled c.escape (chars c.rest.now), chars_short c.rest.now)
+
+-- ---- a text in a letter case
+
+map_take : (f : ℕ → ℕ) (n : ℕ) (cs : List ℕ) → length cs ≤ n → map f (take n cs) ≡ map f cs
+map_take f n cs h = ap (map f) (take_all n cs h)
+
+pub shown_enough : (k : Case) (n : ℕ) (cs : List ℕ) → length cs ≤ n → shown k n cs ≡ map (cased k) cs
+unfolding shown
+shown_enough k n cs h = map_take (cased k) n cs h
+
+pub shown_text : (k : Case) (n : ℕ) (bs : List ℕ) → length bs ≤ n → shown k n (chars bs) ≡ map (cased k) (chars bs)
+shown_text k n bs h = shown_enough k n (chars bs) (omega (arith, chars_short bs))
+
+pub shown_append : (k : Case) (n : ℕ) (xs ys : List ℕ) → length xs ≤ n → shown k n (xs ++ ys) ≡ map (cased k) xs ++ shown k (n - length xs) ys
+unfolding shown
+shown_append k n [] ys h = let e : n - 0 ≡ n = omega arith in rw e refl
+shown_append k zero (x ∷ xs) ys h = absurd (omega arith)
+shown_append k (suc n) (x ∷ xs) ys h =
+    let e : suc n - suc (length xs) ≡ n - length xs = omega arith in rw e (ap (λ l. cased k x ∷ l) (shown_append k n xs ys (omega arith)))

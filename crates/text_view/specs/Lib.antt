@@ -1,9 +1,11 @@
 pub mod Finding
-pub mod Held
+pub mod FirstBytes
 pub mod JsonString
 pub mod LikePattern
 pub mod QuotedField
 pub mod Room
+pub mod Shapes
 pub mod Spelled
 pub mod Trimmed
+pub mod Walking
 pub mod Writing

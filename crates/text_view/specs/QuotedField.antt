@@ -1,6 +1,7 @@
 -- A CSV field that began with its quote: what the characters behind that quote stand for (RFC 4180,
 -- section 2, with an escape character of its own).
 use Rattle.std.specs.Prelude.{◌≡◌, ◌≢◌, ℕ, zero, suc, Bool, false, ◌||◌, ◌&&◌, ◌==◌, IsTrue, List, [], ◌∷◌, ◌++◌, slice_index, if◌then◌else◌}
+use Rattle.std.specs.Str.{NonePass}
 
 -- the characters begin with a quote or an escape
 abbrev pub begins_special : ℕ → ℕ → List ℕ → Bool
@@ -60,3 +61,11 @@ pub data StandsFor (q e : ℕ) (raw text : List ℕ) : Type 0 where
       → text ≡ field_text pieces ++ tail → StandsFor q e raw text
   unclosed : (pieces : List FieldPiece) → AreFieldPieces q e pieces []
       → raw ≡ print_field e pieces [] → text ≡ field_text pieces → StandsFor q e raw text
+
+-- ---- fields that are a slice of their characters
+
+-- no quote and no escape stands in the field, but for a closing quote at its end
+pub data IsPlainField (q e : ℕ) (raw : List ℕ) : Type 0 where
+  unclosed_plain : NonePass (λ c. c == q || c == e) raw → IsPlainField q e raw
+  closed_plain : (text : List ℕ) → NonePass (λ c. c == q || c == e) text → raw ≡ text ++ q ∷ []
+      → IsPlainField q e raw

@@ -8,7 +8,6 @@ use Rattle.text_view.specs.declared.cursor.Case.{Case}
 use Rattle.text_view.specs.declared.cursor.Case.TheVariants.{Kept, Upper, Lower}
 use Rattle.text_view.specs.declared.cursor.Cursor.{Cursor}
 use Rattle.text_view.specs.QuotedField.{unquoted}
-use Rattle.text_view.specs.Trimmed.{contains}
 use Rattle.text_view.specs.JsonString.{unescaped_text}
 
 -- what the characters stand for
@@ -31,13 +30,12 @@ shown letters limit cs = map (cased letters) (take limit cs)
 abbrev pub seen : Cursor → List ℕ
 seen c = shown c.case c.limit (spelled c.escape (chars c.rest.now))
 
--- The number of characters up to the last that isn't in the set, where `passed` characters were passed
+-- The number of characters up to the last that fails the test, where `passed` characters were passed
 -- and `kept` of them are kept.
-abbrev pub kept_after : List ℕ → ℕ → ℕ → List ℕ → ℕ
-kept_after set kept passed [] = kept
-kept_after set kept passed (c ∷ cs) =
-    if contains set c then kept_after set kept (passed + 1) cs
-    else kept_after set (passed + 1) (passed + 1) cs
+abbrev pub kept_after : (ℕ → Bool) → ℕ → ℕ → List ℕ → ℕ
+kept_after test kept passed [] = kept
+kept_after test kept passed (c ∷ cs) =
+    if test c then kept_after test kept (passed + 1) cs else kept_after test (passed + 1) (passed + 1) cs
 
 -- the character may begin an escape or end the part that has escapes
 abbrev pub special : Escape → ℕ → Bool

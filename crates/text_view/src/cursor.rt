@@ -1,17 +1,16 @@
 //! A place in a lent text, and the step from character to character through its escapes.
-ghost use Rattle.std.specs.Prelude.{◌≡◌, ◌+◌, ◌<◌, ◌≤◌, [], ◌∷◌, length, take, drop, map, MatchOption, IfSome, ⊤};
+ghost use Rattle.std.specs.Prelude.{◌≡◌, ◌+◌, ◌<◌, ◌≤◌, [], ◌∷◌, length, take, drop, map, MatchOption, IfSome, ⊤, ◌↔◌, IsTrue};
 ghost use Rattle.std.specs.Str.{chars};
 ghost use Rattle.std.specs.Char.{to_ascii_uppercase, to_ascii_lowercase};
 ghost use Rattle.std.specs.Ordering.{nat_cmp};
 ghost use Rattle.std.specs.Cmp.Lexicographic.{slice_cmp};
-ghost use Rattle.text_view.specs.Trimmed.{contains, without_leading, without_trailing, trimmed};
-ghost use Rattle.text_view.specs.Spelled.{kept_after};
 ghost use Rattle.text_view.specs.Spelled.{spelled, seen, cased};
 ghost use Rattle.text_view.specs.QuotedField.{unquoted, begins_special};
 ghost use Rattle.text_view.specs.JsonString.{unescaped_text, take_escape};
 
+use crate::characters::{split_char, split_chars};
 use crate::json::unescaped;
-use crate::view::Side;
+use crate::plain::{plain_field, plain_string};
 use std::cmp::Ordering;
 
 /// How the bytes of a lent text spell its characters.
@@ -48,17 +47,6 @@ pub(crate) struct Step<'r> {
     pub(crate) character: char,
     pub(crate) rest: &'r str,
     pub(crate) escape: Escape,
-}
-
-/// The first character and the text behind it.
-#[inline]
-pub(crate) fn split_char(text: &str) -> Option<(char, &str)>
-    ensures value { MatchOption result (chars text.now ≡ []) (λ p. chars text.now ≡ p.0 ∷ chars p.1.now) }
-    ensures shorter { MatchOption result (text.now ≡ []) (λ p. length p.1.now < length text.now) }
-{
-    let mut letters = text.chars();
-    let character = letters.next()?;
-    Some((character, letters.as_str()))
 }
 
 impl Escape {
@@ -180,6 +168,45 @@ impl<'r> Cursor<'r> {
         }
     }
 
+    /// A CSV field behind its opening quote.
+    #[inline]
+    pub(crate) fn quoted(raw: &'r str, quote: u8, escape: u8) -> Cursor<'r>
+        requires quote { quote < 128 }
+        requires escape { escape < 128 }
+        ensures { seen result ≡ unquoted quote escape (chars raw.now) }
+    {
+        match plain_field(raw, quote, escape) {
+            Some(text) => Cursor::plain(text),
+            None => Cursor::spelled(raw, Escape::Quoted { quote, escape }),
+        }
+    }
+
+    /// The inside of a JSON string.
+    #[inline]
+    pub(crate) fn json(raw: &'r str) -> Cursor<'r>
+        ensures { seen result ≡ unescaped_text (chars raw.now) }
+    {
+        match plain_string(raw) {
+            Some(text) => Cursor::plain(text),
+            None => Cursor::spelled(raw, Escape::Json),
+        }
+    }
+
+    /// All characters of a text in a letter case.
+    #[tactic(auto, using(crate::proofs::Shown::shown_text))]
+    pub(crate) fn in_case(text: &'r str, case: Case) -> Cursor<'r>
+        ensures value { seen result ≡ map (cased case) (chars text.now) }
+        ensures same { result.rest.now ≡ text.now }
+    {
+        let limit = text.as_bytes().len() as u64;
+        Cursor {
+            rest: text,
+            limit,
+            escape: Escape::Plain,
+            case,
+        }
+    }
+
     /// The next character, or nothing at the end, where nothing changes any more.
     #[inline]
     #[tactic(auto, using(crate::proofs::Shown::shown_steps))]
@@ -197,18 +224,6 @@ impl<'r> Cursor<'r> {
         self.rest = step.rest;
         self.escape = step.escape;
         Some(self.case.of(step.character))
-    }
-
-    /// The number of characters to come.
-    pub(crate) fn count(mut self) -> u64
-        ensures { result ≡ length (seen self.entry) }
-    {
-        let _bytes = self.rest.len();
-        let mut count = 0;
-        'each: while self.next().is_some() {
-            count += 1;
-        }
-        count
     }
 
     /// Passes over the first `count` characters.
@@ -233,79 +248,18 @@ impl<'r> Cursor<'r> {
         self.limit = self.limit.min(count);
     }
 
-    /// Whether `character` is to come.
-    pub(crate) fn holds(mut self, character: char) -> bool
-        ensures { result ≡ contains (seen self.entry) character }
-    {
-        'each: while let Some(c) = self.next() {
-            if c == character {
-                return true;
-            }
-        }
-        false
-    }
-
-    /// Passes over the characters of `set` in front.
-    pub(crate) fn trim_start(&mut self, set: &Cursor<'_>)
-        ensures { seen self.new ≡ without_leading (seen set.now) (seen self.old) }
-    {
-        let mut ahead = *self;
-        'each: while let Some(c) = ahead.next() {
-            if !set.holds(c) {
-                return;
-            }
-            *self = ahead;
-        }
-    }
-
-    /// Leaves out the characters of `set` at the end.
-    #[tactic(auto, using(crate::proofs::Trims::kept_is))]
-    pub(crate) fn trim_end(&mut self, set: &Cursor<'_>)
-        ensures { seen self.new ≡ without_trailing (seen set.now) (seen self.old) }
-    {
-        let kept = self.kept(set);
-        self.cut(kept);
-    }
-
-    /// How many characters come up to the last one that isn't in `set`.
-    fn kept(mut self, set: &Cursor<'_>) -> u64
-        ensures { result ≡ kept_after (seen set.now) 0 0 (seen self.entry) }
-    {
-        let _bytes = self.rest.len();
-        let mut passed = 0;
-        let mut kept = 0;
-        'each: while let Some(c) = self.next() {
-            passed += 1;
-            if !set.holds(c) {
-                kept = passed;
-            }
-        }
-        kept
-    }
-
     /// `count` characters from place `from` on.
     pub(crate) fn sub(&self, from: u64, count: u64) -> Cursor<'r>
         ensures { seen result ≡ take count (drop from (seen self.now)) }
     {
+        if let Some(text) = self.uncased() {
+            let (_, behind) = split_chars(text, from);
+            let (part, _) = split_chars(behind, count);
+            return Cursor::in_case(part, self.case);
+        }
         let mut part = *self;
         part.skip(from);
         part.cut(count);
-        part
-    }
-
-    /// What is left without the characters of `set` at the side.
-    pub(crate) fn trim(&self, side: Side, set: &Cursor<'_>) -> Cursor<'r>
-        ensures { seen result ≡ trimmed side (seen set.now) (seen self.now) }
-    {
-        let mut part = *self;
-        match side {
-            Side::Leading => part.trim_start(set),
-            Side::Trailing => part.trim_end(set),
-            Side::Both => {
-                part.trim_start(set);
-                part.trim_end(set);
-            }
-        }
         part
     }
 
@@ -352,6 +306,28 @@ impl<'r> Cursor<'r> {
         }
     }
 
+    /// Whether the same characters are to come.
+    pub(crate) fn same(self, other: Cursor<'_>) -> bool
+        ensures { IsTrue result ↔ (seen self.entry ≡ seen other.entry) }
+    {
+        self.compare(other).is_eq()
+    }
+
+    /// The bytes, where they are what is to come but for the letter case.
+    #[inline]
+    #[tactic(auto, using(crate::proofs::Shown::shown_text))]
+    pub(crate) fn uncased(&self) -> Option<&'r str>
+        ensures { IfSome result (λ text. (seen self.now ≡ map (cased self.now.case) (chars text.now))
+            × (text.now ≡ self.now.rest.now)) }
+    {
+        let text = self.rest;
+        let bytes = text.as_bytes();
+        match self.escape {
+            Escape::Plain if self.limit >= bytes.len() as u64 => Some(text),
+            _ => None,
+        }
+    }
+
     /// The bytes, where they are what is to come, each as it is.
     #[inline]
     #[tactic(auto, using(crate::proofs::Shown::shown_whole))]
@@ -371,7 +347,7 @@ impl<'r> Cursor<'r> {
 impl Case {
     /// The character in this case.
     #[inline]
-    fn of(self, character: char) -> char
+    pub(crate) fn of(self, character: char) -> char
         ensures { result ≡ cased self character }
     {
         match self {

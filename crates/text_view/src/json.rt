@@ -4,7 +4,7 @@ ghost use Rattle.std.specs.Str.{chars};
 ghost use Rattle.std.specs.Char.{digit_value};
 ghost use Rattle.text_view.specs.JsonString.{take_escape, take_code, take_letter, take_pair, has_code, hex_in, hex_value, pair_value, is_high_surrogate, is_low_surrogate, solidus_alone};
 
-use crate::cursor::split_char;
+use crate::characters::split_char;
 
 /// The character that an escape stands for and the text behind it, or the reverse solidus itself
 /// where no escape begins.

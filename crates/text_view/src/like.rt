@@ -6,9 +6,12 @@ ghost use Rattle.text_view.specs.LikePattern.{pattern_parts, is_escape, may_foll
 ghost use Rattle.text_view.specs.Finding.{like, like_end, fits_one, find_parts, Tells, Shortens};
 ghost use Rattle.text_view.specs.Spelled.{seen};
 ghost use Rattle.text_view.specs.Writing.{StandsForItself};
+ghost use Rattle.text_view.specs.Shapes.{IsShaped};
 ghost use Rattle.memchr.specs.Find.{is_byte};
 
-use crate::cursor::{Cursor, split_char};
+use crate::characters::split_char;
+use crate::cursor::Cursor;
+use crate::shapes::{Shape, begins, ends, holds, is_whole, letters_of, shape_of};
 use crate::view::Text;
 use memchr::memchr;
 use std::alloc::{AllocError, Global};
@@ -16,7 +19,7 @@ use std::marker::Model;
 
 /// What one piece of a matching text is.
 #[derive(Clone, Copy)]
-enum Part {
+pub(crate) enum Part {
     /// This character.
     Char(char),
     /// Any one character.
@@ -29,6 +32,9 @@ enum Part {
 #[derive(Drop)]
 pub struct Pattern {
     parts: Vec<Part>,
+    /// The characters among the parts, and where they stand in a matching text.
+    letters: String,
+    shape: Shape,
 }
 
 impl Model for Pattern {
@@ -38,6 +44,12 @@ impl Model for Pattern {
     ghost Value = { List Part };
 
     ghost view = { λ p. p.parts.items };
+
+    ghost use Rattle.std.specs.Str.{chars};
+    ghost use Rattle.std.specs.String.{string_bytes};
+    ghost use Rattle.text_view.specs.Shapes.{IsShaped};
+
+    ghost invariant = { λ p. IsShaped p.shape p.parts.items (chars (string_bytes p.letters)) };
 }
 
 /// What the parts up to the next `%` find in front of a text.
@@ -81,14 +93,48 @@ impl Pattern {
             parts.push(part)?;
             rest = left;
         }
-        Ok(Pattern { parts })
+        let letters = letters_of(alloc, parts.as_slice())?;
+        let shape = shape_of(parts.as_slice());
+        Ok(Pattern {
+            parts,
+            letters,
+            shape,
+        })
     }
 
     /// Whether the text splits into as many pieces as there are parts, each fitting its part.
     pub fn matches(&self, text: &Text<'_>) -> bool
         ensures { IsTrue result ↔ Matches self.now text.now }
     {
-        fits_text(self.parts.as_slice(), text.cursor())
+        match text.as_plain() {
+            Some(plain) => self.matches_str(plain),
+            None => fits_text(self.parts.as_slice(), text.cursor()),
+        }
+    }
+
+    /// The same of a text that is lent as it is.
+    pub fn matches_str(&self, text: &str) -> bool
+        ensures { IsTrue result ↔ Matches self.now (chars text.now) }
+    {
+        fits_str(
+            self.shape,
+            self.parts.as_slice(),
+            self.letters.as_str(),
+            text,
+        )
+    }
+}
+
+fn fits_str(shape: Shape, parts: &[Part], wanted: &str, text: &str) -> bool
+    requires { IsShaped shape parts.now (chars wanted.now) }
+    ensures { result ≡ like parts.now (chars text.now) }
+{
+    match shape {
+        Shape::Whole => is_whole(text, wanted),
+        Shape::Front => begins(text, wanted),
+        Shape::Back => ends(text, wanted),
+        Shape::Inside => holds(text, wanted),
+        Shape::General => fits_text(parts, Cursor::plain(text)),
     }
 }
 

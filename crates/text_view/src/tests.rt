@@ -1,6 +1,5 @@
-//! Worked examples: escapes from RFC 8259, quoted fields, LIKE, and the buffer's room.
-use crate::{Buf, Pattern, Side, Text};
-use arrayvec::ArrayString;
+//! Worked examples: escapes from RFC 8259, quoted fields, LIKE, and which texts are plain.
+use crate::{Buf, Pattern, Run, Side, Text, plain_field, plain_string};
 use std::alloc::Global;
 use std::process::Abort;
 use std::test::Fail;
@@ -10,12 +9,50 @@ fn shows(alloc: Global, rt: &impl Abort, text: &Text<'_>, wanted: &str) -> Resul
     let mut out = Buf::make(alloc, 64)?;
     assert!(rt; text.write_to(&mut out).is_ok());
     assert!(rt; out.bytes() == wanted.as_bytes(), "{wanted}");
+    assert!(rt; text.equals(wanted));
     Ok(())
+}
+
+fn strings(alloc: Global, rt: &impl Abort, table: &[(&str, &str)]) -> Result<(), Fail> {
+    for (raw, wanted) in table {
+        shows(alloc, rt, &Text::json(raw), wanted)?;
+    }
+    Ok(())
+}
+
+fn fields(alloc: Global, rt: &impl Abort, table: &[(&str, u8, &str)]) -> Result<(), Fail> {
+    for (raw, escape, wanted) in table {
+        assert!(rt; *escape < 128);
+        shows(alloc, rt, &Text::quoted(raw, b'"', *escape), wanted)?;
+    }
+    Ok(())
+}
+
+fn likes(alloc: Global, rt: &impl Abort, table: &[(&str, &str, bool)]) -> Result<(), Fail> {
+    for (text, pattern, wanted) in table {
+        assert!(rt; Pattern::fits(pattern, Some('!')), "{pattern}");
+        let made = Pattern::make(alloc, pattern, Some('!'))?;
+        assert!(rt; made.matches_str(text) == *wanted, "{text} LIKE {pattern}");
+        let upper = Text::plain(text).upper();
+        assert!(rt;
+            made.matches(&upper.lower()) == *wanted,
+            "{text} LIKE {pattern}"
+        );
+    }
+    Ok(())
+}
+
+/// Whether the text is lent as these bytes.
+fn lends(text: &Text<'_>, wanted: &str) -> bool {
+    match text.as_plain() {
+        Some(plain) => plain.as_bytes() == wanted.as_bytes(),
+        None => false,
+    }
 }
 
 #[test]
 fn escapes(rt: HostRuntime) -> Result<(), Fail> {
-    let strings = [
+    let table = [
         ("a\\\"b", "a\"b"),
         ("\\\\", "\\"),
         ("\\/", "/"),
@@ -27,10 +64,8 @@ fn escapes(rt: HostRuntime) -> Result<(), Fail> {
         ("€\\u20AC", "€€"),
         ("\\u005C", "\\"),
     ];
-    for (raw, wanted) in strings {
-        shows(rt.alloc(), &rt, &Text::json(raw), wanted)?;
-    }
-    let fields = [
+    strings(rt.alloc(), &rt, &table)?;
+    let table = [
         ("a\"\"b\"", b'"', "a\"b"),
         ("c\"d", b'"', "cd"),
         ("e", b'"', "e"),
@@ -38,16 +73,12 @@ fn escapes(rt: HostRuntime) -> Result<(), Fail> {
         ("a\\\"b\\x\"y", b'\\', "a\"b\\xy"),
         ("é\\\\\"", b'\\', "é\\"),
     ];
-    for (raw, escape, wanted) in fields {
-        assert!(rt; escape < 128);
-        shows(rt.alloc(), &rt, &Text::quoted(raw, b'"', escape), wanted)?;
-    }
-    Ok(())
+    fields(rt.alloc(), &rt, &table)
 }
 
 #[test]
 fn patterns(rt: HostRuntime) -> Result<(), Fail> {
-    let cases = [
+    let table = [
         ("aaab", "%aab", true),
         ("", "%", true),
         ("", "_", false),
@@ -56,28 +87,18 @@ fn patterns(rt: HostRuntime) -> Result<(), Fail> {
         ("50x", "50!%", false),
         ("a!b", "a!!b", true),
         ("a_b", "a!_b", true),
-        ("acb", "a!_b", false),
         ("abcabd", "%ab_", true),
         ("abcabd", "%abd%", true),
+        ("abcabd", "%bx%", false),
+        ("abcabd", "abca%", true),
         ("abcabd", "ab%d", true),
-        ("abcabd", "ab%c", false),
         ("mississippi", "%iss%ip%", true),
         ("mississippi", "m%iss%issx%", false),
-        ("abc", "abc", true),
-        ("abcd", "abc", false),
-        ("ab", "abc", false),
         ("xéy€z", "%é_€%", true),
-        ("x", "%%_%%", true),
+        ("xéy€z", "%€z", true),
+        ("ab", "abc%", false),
     ];
-    for (text, pattern, wanted) in cases {
-        assert!(rt; Pattern::fits(pattern, Some('!')), "{pattern}");
-        let made = Pattern::make(rt.alloc(), pattern, Some('!'))?;
-        assert!(rt;
-            made.matches(&Text::plain(text)) == wanted,
-            "{text} LIKE {pattern}"
-        );
-    }
-    assert!(rt; Pattern::fits("50!%", Some('!')));
+    likes(rt.alloc(), &rt, &table)?;
     assert!(rt; !Pattern::fits("50!x", Some('!')));
     Ok(())
 }
@@ -86,32 +107,33 @@ fn patterns(rt: HostRuntime) -> Result<(), Fail> {
 fn calls(rt: HostRuntime) -> Result<(), Fail> {
     let mut out = Buf::make(rt.alloc(), 3)?;
     assert!(rt; out.push(b"four").is_err());
-    assert!(rt; out.bytes().is_empty());
-    assert!(rt; Text::plain("abc").write_to(&mut out).is_ok());
+    assert!(rt; out.push_str("abc").is_ok());
+    assert!(rt; out.as_str().len() == 3);
     out.clear();
+    assert!(rt; out.push(b"abc").is_ok());
     let text = Text::plain("  Straße ");
     let space = Text::plain(" ");
     let trimmed = text.trim(Side::Both, &space);
+    assert!(rt; lends(&trimmed, "Straße"));
+    assert!(rt; lends(&trimmed.sub(4, 9), "ße"));
+    assert!(rt;
+        lends(
+            &text.trim(Side::Leading, &Text::plain("é ")).again(),
+            "Straße "
+        )
+    );
+    assert!(rt; lends(&Text::quoted("ab\"", b'"', b'"'), "ab"));
+    assert!(rt; lends(&Text::json("ab"), "ab"));
+    assert!(rt; plain_field("a\"b", b'"', b'"').is_none());
+    assert!(rt; plain_string("a").is_some());
     shows(rt.alloc(), &rt, &trimmed.upper(), "STRAßE")?;
-    shows(rt.alloc(), &rt, &trimmed.sub(4, 9).lower(), "ße")?;
-    shows(
-        rt.alloc(),
-        &rt,
-        &text.trim(Side::Leading, &space),
-        "Straße ",
-    )?;
-    shows(
-        rt.alloc(),
-        &rt,
-        &text.trim(Side::Trailing, &space),
-        "  Straße",
-    )?;
+    assert!(rt; trimmed.upper().eq_ignore_ascii_case("straße"));
     assert!(rt; trimmed.len_chars() == 6);
     assert!(rt; trimmed.chars().next() == Some('S'));
     assert!(rt; text.compare(&trimmed).is_lt());
-    let held = ArrayString::from("Añb").ok().ok_or("no room")?;
-    shows(rt.alloc(), &rt, &Text::short(held).upper().sub(1, 1), "ñ")?;
-    shows(rt.alloc(), &rt, &Text::short(held).again(), "Añb")?;
-    shows(rt.alloc(), &rt, &trimmed.again(), "Straße")?;
+    match Text::json("ab\\n").chars().next_run() {
+        Some(Run::Slice(run)) => assert!(rt; run.len() == 2),
+        _ => assert!(rt; false),
+    }
     Ok(())
 }

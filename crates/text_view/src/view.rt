@@ -1,6 +1,6 @@
-//! Texts: lists of characters that are lent through escapes, or held where they are short.
-ghost use Rattle.std.specs.Prelude.{◌≡◌, ◌+◌, ◌<◌, ◌≤◌, ℕ, List, [], ◌∷◌, length, take, drop, map, IsOk, OnOk, OnErr, ◌↔◌, ◌++◌};
-ghost use Rattle.std.specs.Str.{chars, encode_utf8_all};
+//! Texts: lists of characters that are lent through escapes.
+ghost use Rattle.std.specs.Prelude.{◌≡◌, ◌+◌, ◌<◌, ◌≤◌, ℕ, List, [], ◌∷◌, length, take, drop, map, IsOk, OnOk, OnErr, ◌↔◌, ◌++◌, ◌^◌, IfSome, MatchOption, IsTrue};
+ghost use Rattle.std.specs.Str.{chars, encode_utf8_all, IsUtf8};
 ghost use Rattle.std.specs.Char.{to_ascii_uppercase, to_ascii_lowercase};
 ghost use Rattle.std.specs.Iterator.{YieldsFirst, item_count};
 ghost use Rattle.std.specs.Ordering.{nat_cmp};
@@ -9,11 +9,11 @@ ghost use Rattle.text_view.specs.Trimmed.{trimmed};
 ghost use Rattle.text_view.specs.QuotedField.{unquoted, StandsFor};
 ghost use Rattle.text_view.specs.JsonString.{SpellsString, unescaped_text};
 ghost use Rattle.text_view.specs.Spelled.{seen};
+ghost use Rattle.text_view.specs.Walking.{run_chars};
 
-use crate::cursor::{Cursor, Escape};
+use crate::cursor::{Case, Cursor};
 use crate::output::{Buf, Full};
-use crate::pieces::write_all;
-use arrayvec::ArrayString;
+use crate::pieces::{Run, write_all};
 use std::cmp::Ordering;
 use std::marker::Model;
 
@@ -25,16 +25,10 @@ pub enum Side {
     Both,
 }
 
-/// A list of characters, none of them copied but those of a short text.
+/// A list of characters, none of them copied.
 #[derive(Drop)]
 pub struct Text<'r> {
-    kind: Kind<'r>,
-}
-
-#[derive(Clone, Copy)]
-enum Kind<'r> {
-    Lent(Cursor<'r>),
-    Short(ArrayString<64>),
+    cursor: Cursor<'r>,
 }
 
 impl<'r> Model for Text<'r> {
@@ -42,9 +36,9 @@ impl<'r> Model for Text<'r> {
 
     ghost Value = { List ℕ };
 
-    ghost use Rattle.text_view.specs.Held.{held};
+    ghost use Rattle.text_view.specs.Spelled.{seen};
 
-    ghost view = { λ t. held t.kind };
+    ghost view = { λ t. seen t.cursor };
 }
 
 /// The characters of a text, in order.
@@ -81,7 +75,7 @@ impl<'r> Text<'r> {
         ensures stands { StandsFor quote escape (chars raw.now) result }
         ensures alone { (text : List ℕ) → StandsFor quote escape (chars raw.now) text → result ≡ text }
     {
-        Text::lent(Cursor::spelled(raw, Escape::Quoted { quote, escape }))
+        Text::lent(Cursor::quoted(raw, quote, escape))
     }
 
     /// The inside of a JSON string (RFC 8259, section 7). A reverse solidus that begins no escape
@@ -90,58 +84,55 @@ impl<'r> Text<'r> {
         ensures value { result ≡ unescaped_text (chars raw.now) }
         ensures grammar { (text : List ℕ) → SpellsString (chars raw.now) text → result ≡ text }
     {
-        Text::lent(Cursor::spelled(raw, Escape::Json))
-    }
-
-    /// A text that is held and not lent.
-    pub fn short(text: ArrayString<64>) -> Text<'r>
-        ensures { result ≡ chars text.bytes }
-    {
-        Text {
-            kind: Kind::Short(text),
-        }
+        Text::lent(Cursor::json(raw))
     }
 
     /// The same text again.
     pub fn again(&self) -> Text<'r>
         ensures { result ≡ self.now }
     {
-        match &self.kind {
-            Kind::Lent(cursor) => Text::lent(*cursor),
-            Kind::Short(text) => Text::short(*text),
-        }
-    }
-
-    fn lent(cursor: Cursor<'r>) -> Text<'r>
-        ensures { result ≡ seen cursor.entry }
-    {
-        Text {
-            kind: Kind::Lent(cursor),
-        }
+        Text::lent(self.cursor)
     }
 
     #[inline]
-    pub(crate) fn cursor(&self) -> Cursor<'_>
-        ensures { seen result ≡ self.now }
+    fn lent(cursor: Cursor<'r>) -> Text<'r>
+        ensures { result ≡ seen cursor.entry }
     {
-        match &self.kind {
-            Kind::Lent(cursor) => *cursor,
-            Kind::Short(text) => Cursor::plain(text.as_str()),
-        }
+        Text { cursor }
     }
 
-    /// The characters in order.
-    pub fn chars(&self) -> Chars<'_>
-        ensures { result ≡ self.now }
+    #[inline]
+    pub(crate) fn cursor(&self) -> Cursor<'r>
+        ensures value { seen result ≡ self.now }
+        ensures fewer { length (seen result) < 2 ^ 63 }
+    {
+        let cursor = self.cursor;
+        byte_len(cursor.rest);
+        cursor
+    }
+
+    /// The characters in order, fewer than 2^63.
+    pub fn chars(&self) -> Chars<'r>
+        ensures value { result ≡ self.now }
+        ensures fewer { length result < 2 ^ 63 }
     {
         Chars {
             cursor: self.cursor(),
         }
     }
 
-    /// The number of characters.
+    /// The bytes of the text in UTF-8, where it stands so in what was lent.
+    #[inline]
+    pub fn as_plain(&self) -> Option<&'r str>
+        ensures { IfSome result (λ text. self.now ≡ chars text.now) }
+    {
+        self.cursor.whole()
+    }
+
+    /// The number of characters, below 2^63.
     pub fn len_chars(&self) -> u64
-        ensures { result ≡ length self.now }
+        ensures value { result ≡ length self.now }
+        ensures fewer { result < 2 ^ 63 }
     {
         self.cursor().count()
     }
@@ -160,45 +151,58 @@ impl<'r> Text<'r> {
         left.compare(right)
     }
 
+    /// Whether the text has the characters of `other`.
+    #[inline]
+    pub fn equals(&self, other: &str) -> bool
+        ensures { IsTrue result ↔ (self.now ≡ chars other.now) }
+    {
+        match self.as_plain() {
+            Some(text) => text.as_bytes() == other.as_bytes(),
+            None => self.cursor().same(Cursor::plain(other)),
+        }
+    }
+
+    /// Whether the text has the characters of `other` but for the case of ASCII letters.
+    #[inline]
+    pub fn eq_ignore_ascii_case(&self, other: &str) -> bool
+        ensures { IsTrue result
+            ↔ (map to_ascii_lowercase self.now ≡ map to_ascii_lowercase (chars other.now)) }
+    {
+        match self.as_plain() {
+            Some(text) => text.as_bytes().eq_ignore_ascii_case(other.as_bytes()),
+            None => self
+                .cursor()
+                .lower()
+                .same(Cursor::in_case(other, Case::Lower)),
+        }
+    }
+
     /// `count` characters from place `from` on, which counts from 0; both are cut to the text.
     pub fn sub(&self, from: u64, count: u64) -> Text<'r>
         ensures { result ≡ take count (drop from self.now) }
     {
-        match &self.kind {
-            Kind::Lent(cursor) => Text::lent(cursor.sub(from, count)),
-            Kind::Short(text) => Text::short(copied(Cursor::plain(text.as_str()).sub(from, count))),
-        }
+        Text::lent(self.cursor.sub(from, count))
     }
 
     /// The text without the characters of `set` at the side.
     pub fn trim(&self, side: Side, set: &Text<'_>) -> Text<'r>
         ensures { result ≡ trimmed side set.now self.now }
     {
-        let set = set.cursor();
-        match &self.kind {
-            Kind::Lent(cursor) => Text::lent(cursor.trim(side, &set)),
-            Kind::Short(text) => Text::short(copied(Cursor::plain(text.as_str()).trim(side, &set))),
-        }
+        Text::lent(self.cursor.trim(side, &set.cursor))
     }
 
     /// The text with its ASCII letters in upper case.
     pub fn upper(&self) -> Text<'r>
         ensures { result ≡ map to_ascii_uppercase self.now }
     {
-        match &self.kind {
-            Kind::Lent(cursor) => Text::lent(cursor.upper()),
-            Kind::Short(text) => Text::short(copied(Cursor::plain(text.as_str()).upper())),
-        }
+        Text::lent(self.cursor.upper())
     }
 
     /// The text with its ASCII letters in lower case.
     pub fn lower(&self) -> Text<'r>
         ensures { result ≡ map to_ascii_lowercase self.now }
     {
-        match &self.kind {
-            Kind::Lent(cursor) => Text::lent(cursor.lower()),
-            Kind::Short(text) => Text::short(copied(Cursor::plain(text.as_str()).lower())),
-        }
+        Text::lent(self.cursor.lower())
     }
 
     /// Appends the text in UTF-8, or nothing where it doesn't fit.
@@ -208,22 +212,31 @@ impl<'r> Text<'r> {
         ensures ok { OnOk result (out.new
             ≡ record out.old { bytes = out.old.bytes ++ encode_utf8_all self.now }) }
         ensures full { OnErr result (out.new ≡ out.old) }
+        ensures utf8 { IsUtf8 out.old.bytes → IsUtf8 out.new.bytes }
     {
         write_all(self.cursor(), out)
     }
 }
 
-/// The characters to come, which fit a short text.
-fn copied(mut cursor: Cursor<'_>) -> ArrayString<64>
-    requires { length (encode_utf8_all (seen cursor)) ≤ 64 }
-    ensures { chars result.bytes ≡ seen cursor.entry }
+/// The number of bytes: no slice has 2^63.
+fn byte_len(text: &str) -> usize
+    ensures value { result ≡ length text.now }
+    ensures fewer { length text.now < 2 ^ 63 }
 {
-    let mut text = ArrayString::new();
-    'each: while let Some(c) = cursor.next() {
-        text.push(c);
+    text.len()
+}
+
+impl<'r> Chars<'r> {
+    /// The next characters as a slice of what was lent, as far as they stand so in it; else the next
+    /// character, or nothing at the end. A text that is `plain` is one slice.
+    #[inline]
+    pub fn next_run(&mut self) -> Option<Run<'r>>
+        ensures value { MatchOption result ((self.old ≡ []) × (self.new ≡ []))
+            (λ run. self.old ≡ run_chars run ++ self.new) }
+        ensures filled { IfSome result (λ run. 0 < length (run_chars run)) }
+    {
+        self.cursor.next_run()
     }
-    let _characters = text.as_str();
-    text
 }
 
 impl<'r> Iterator for Chars<'r> {

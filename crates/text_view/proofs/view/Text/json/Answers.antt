@@ -5,4 +5,4 @@ use Rattle.text_view.proofs.view.Text.json.Goals as goal
 
 pub returns-clause-grammar : goal.returns-clause-grammar
 returns-clause-grammar c = λ text spells.
-    c.lent.ensures ∙ c.spelled.ensures.value ∙ string_read (chars c.args.raw.now) text spells
+    c.lent.ensures ∙ c.json.ensures ∙ string_read (chars c.args.raw.now) text spells

@@ -5,8 +5,8 @@ use Rattle.text_view.proofs.view.Text.quoted.Goals as goal
 
 pub returns-clause-stands : goal.returns-clause-stands
 returns-clause-stands c =
-    rw (c.lent.ensures, c.spelled.ensures.value) (field_stands c.args.quote c.args.escape (chars c.args.raw.now))
+    rw (c.lent.ensures, c.quoted.ensures) (field_stands c.args.quote c.args.escape (chars c.args.raw.now))
 
 pub returns-clause-alone : goal.returns-clause-alone
 returns-clause-alone c = λ text stands.
-    c.lent.ensures ∙ c.spelled.ensures.value ∙ field_alone c.args.quote c.args.escape (chars c.args.raw.now) text stands
+    c.lent.ensures ∙ c.quoted.ensures ∙ field_alone c.args.quote c.args.escape (chars c.args.raw.now) text stands
