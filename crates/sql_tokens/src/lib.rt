@@ -15,3 +15,6 @@ mod tokens;
 pub use class::Class;
 pub use text_buf::TextBuf;
 pub use tokens::Tokens;
+
+#[cfg(test)]
+mod tests;
