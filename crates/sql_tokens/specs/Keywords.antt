@@ -1,5 +1,5 @@
 -- The keywords of a query, in any ASCII case, and the class of a word.
-use Rattle.std.specs.Prelude.{Bool, true, false, ℕ, List, [], ◌∷◌, codes, if◌then◌else◌}
+use Rattle.std.specs.Prelude.{Bool, true, false, ℕ, List, [], ◌∷◌, ◌==◌, length, codes, if◌then◌else◌}
 use Rattle.std.specs.Str.{str_eq_ignore_ascii_case}
 use Rattle.sql_tokens.specs.declared.class.Class.{Class}
 use Rattle.sql_tokens.specs.declared.class.Class.TheVariants.{Select, From, Where, Limit, As, And, Or, Not, In, Like, Escape, Between, Is, Null, Missing, True, False, Case, When, Then, Else, End, Cast, Leading, Trailing, Both, Name, NameCalled, S3Object, S3ObjectCalled, For, ForCalled, BoolType, BoolTypeCalled, IntType, IntTypeCalled, StringType, StringTypeCalled, TimestampType, TimestampTypeCalled, DecimalType, DecimalTypeCalled, Year, YearCalled, Month, MonthCalled, Day, DayCalled, Hour, HourCalled, Minute, MinuteCalled, Second, SecondCalled, TimezoneHour, TimezoneHourCalled, TimezoneMinute, TimezoneMinuteCalled, CountCalled, SumCalled, MinCalled, MaxCalled, AvgCalled, CoalesceCalled, NullifCalled, CharLengthCalled, LowerCalled, UpperCalled, SubstringCalled, TrimCalled, ExtractCalled, DateAddCalled, ToTimestampCalled}
@@ -95,3 +95,8 @@ class_in (k ∷ ks) called word =
 -- the class of a word
 unfoldable pub class_of_word : Bool → List ℕ → Class
 class_of_word called word = class_in keywords called word
+
+-- the keywords of so many bytes
+abbrev pub of_length : ℕ → List Keyword → List Keyword
+of_length n [] = []
+of_length n (k ∷ ks) = if length k.word == n then k ∷ of_length n ks else of_length n ks
