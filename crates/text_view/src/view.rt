@@ -184,7 +184,8 @@ impl<'r> Text<'r> {
         Text::lent(self.cursor.sub(from, count))
     }
 
-    /// The text without the characters of `set` at the side.
+    /// The text without the characters of `set` at the side, in time linear in both. A set with a
+    /// character past ASCII takes 136 KiB of stack.
     pub fn trim(&self, side: Side, set: &Text<'_>) -> Text<'r>
         ensures { result ≡ trimmed side set.now self.now }
     {
