@@ -1,5 +1,5 @@
 -- Two choices that begin with different symbols are one choice.
-use Rattle.std.proofs.Common.{◌≡◌, ◌&&◌, ◌⊎◌, Bool, true, false, List, [], ◌∷◌, ◌++◌, refl, subst, inl, inr}
+use Rattle.std.proofs.Common.{◌≡◌, ◌||◌, ◌&&◌, ◌⊎◌, Bool, true, false, List, [], ◌∷◌, ◌++◌, refl, subst, inl, inr}
 use Rattle.grammar_rules.specs.Rules.{Rule, Last, fits, faulty, Verdict, takes, faults, refuses, limited, SpelledByOne, FrontOfOne, terminal, made, begun, either, one_of_two, Same}
 use Rattle.grammar_rules.specs.Readers.{is_seen}
 use Rattle.grammar_rules.specs.Factored.{verdict_made, merged, either_of}
@@ -64,6 +64,14 @@ module _ {T K A B : Type 0} (f : A → B) (look : T → Verdict K A) where
 -- ---- two choices
 
 module _ {K A B : Type 0} where
+  -- a symbol is seen by one of the two
+  pub seen_merged : (v : Verdict K A) (w : Verdict K B) → is_seen (merged v w) ≡ (is_seen v || is_seen w)
+  seen_merged (takes a) w = refl
+  seen_merged (faults k) w = refl
+  seen_merged refuses (takes b) = refl
+  seen_merged refuses (faults k) = refl
+  seen_merged refuses refuses = refl
+
   -- a limit on both is one on each
   pub merged_limited : (k : K) (room : Bool) (v : Verdict K A) (w : Verdict K B) → merged (limited k room v) (limited k room w) ≡ limited k room (merged v w)
   merged_limited k true v w = refl
