@@ -2,7 +2,7 @@
 use Rattle.std.proofs.Common.{◌≡◌, ℕ, zero, suc, ◌+◌, ◌-◌, ◌<◌, ◌≤◌, List, [], ◌∷◌, ◌++◌, length, take, drop, Option, Some, None, refl, sym, ap, ◌∙◌, subst, append_assoc, append-nil, arith, length-append}
 use Rattle.grammar_rules.specs.Rules.{Rule, Last, fits, faulty}
 use Rattle.grammar_rules.specs.Readers.{Outcome, found, failed, answer, answer_named}
-use Rattle.grammar_rules.specs.Places.{RefusedThere, FaultyThere, Answer, value, refusal, Answers, named_first, AnswersNamed}
+use Rattle.grammar_rules.specs.Places.{RefusedThere, FaultyThere, value, refusal, Answers, named_first, AnswersNamed}
 use Rattle.grammar_rules.proofs.Clear.{Closed}
 use Rattle.grammar_rules.proofs.Right.{Stops, Right}
 

@@ -1,5 +1,5 @@
 -- A choice that begins with one symbol, whose value tells what follows, is read.
-use Rattle.std.proofs.Common.{◌≡◌, ◌||◌, ◌&&◌, ◌⊎◌, if◌then◌else◌, Bool, true, false, List, [], ◌∷◌, ◌++◌, refl, inl, inr}
+use Rattle.std.proofs.Common.{◌≡◌, ◌||◌, ◌⊎◌, if◌then◌else◌, Bool, true, false, List, [], ◌∷◌, ◌++◌, refl, inl, inr}
 use Rattle.grammar_rules.specs.Rules.{Rule, Last, fits, faulty, Verdict, takes, faults, refuses, SpelledByOne, FrontOfOne, terminal, token, sequence, begun, preceded_by}
 use Rattle.grammar_rules.specs.Readers.{Outcome, and_then, read_terminal, is_seen, read_begun}
 use Rattle.grammar_rules.specs.Counted.{Counted, after}

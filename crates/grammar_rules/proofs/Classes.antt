@@ -2,13 +2,13 @@
 -- lookahead is a literal record of tests, each condition computes and is one `refl`.
 use Rattle.std.proofs.Common.{◌≡◌, ℕ, zero, suc, ◌||◌, ◌&&◌, Bool, true, false, not, List, [], ◌∷◌, Some, refl}
 use Rattle.std.specs.List.{list_all, slice_get}
-use Rattle.grammar_rules.specs.Rules.{Rule, Verdict, terminal, token}
-use Rattle.grammar_rules.specs.Readers.{Outcome, read_terminal, is_seen}
+use Rattle.grammar_rules.specs.Rules.{Rule}
+use Rattle.grammar_rules.specs.Readers.{Outcome}
 use Rattle.grammar_rules.proofs.Clear.{Sight}
 use Rattle.grammar_rules.proofs.Sequences.{Apart}
 use Rattle.grammar_rules.proofs.Choices.{Distinct}
 use Rattle.grammar_rules.proofs.Terminals.{Sees}
-use Rattle.grammar_rules.proofs.Reading.{Reads, and_first, and_second, token_sight, reads_seen}
+use Rattle.grammar_rules.proofs.Reading.{Reads, and_first, and_second, reads_seen}
 
 -- the lookahead that tells symbols by their class
 abbrev pub by_class : {T C : Type 0} → (T → C) → Sight C → Sight T

@@ -1,6 +1,6 @@
 -- Rules in which each front begins a text, part by part.
-use Rattle.std.proofs.Common.{◌≡◌, ℕ, zero, suc, true, false, List, [], ◌∷◌, ◌++◌, Some, None, refl, sym, ap, ◌∙◌, subst, inl, inr, append_assoc, append-nil}
-use Rattle.grammar_rules.specs.Rules.{Rule, fits, Verdict, takes, Joined, terminal, nothing, made, sequence, alternatives, either, one_of_two, optional, headed, ◌&◌, bounded, many, SpelledByOne, FrontOfOne, Completes}
+use Rattle.std.proofs.Common.{◌≡◌, ℕ, zero, suc, true, false, List, [], ◌∷◌, ◌++◌, refl, sym, ap, ◌∙◌, subst, inl, inr, append_assoc, append-nil}
+use Rattle.grammar_rules.specs.Rules.{Rule, fits, Verdict, takes, Joined, terminal, nothing, made, sequence, alternatives, either, one_of_two, headed, ◌&◌, bounded, many, SpelledByOne, FrontOfOne, Completes}
 use Rattle.grammar_rules.proofs.Clear.{Closed}
 
 -- a terminal that some symbol fits

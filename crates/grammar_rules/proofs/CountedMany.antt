@@ -1,15 +1,15 @@
 -- A repetition that hands a count on, and the steps of a loop that reads it.
-use Rattle.std.proofs.Common.{◌≡◌, ℕ, zero, suc, ◌+◌, ◌<◌, ◌||◌, ◌&&◌, Bool, true, false, List, [], ◌∷◌, ◌++◌, length, Option, is_some, refl, ap, subst, inl, inr, append_assoc, append-nil, arith}
-use Rattle.grammar_rules.specs.Rules.{Rule, Last, nothing, made, sequence, either, one_of_two, Within}
+use Rattle.std.proofs.Common.{◌≡◌, ℕ, zero, suc, ◌+◌, ◌<◌, ◌||◌, ◌&&◌, Bool, true, false, List, [], ◌∷◌, ◌++◌, length, Option, is_some, refl, ap, inl, inr, append_assoc, append-nil, arith}
+use Rattle.grammar_rules.specs.Rules.{Last, nothing, made, sequence, one_of_two, Within}
 use Rattle.grammar_rules.specs.Readers.{Outcome, found, failed, and_then, read_made, starts, chosen}
-use Rattle.grammar_rules.specs.Counted.{Counted, given, both, past, joined_to, bounded_from, many_from, chain, item, list_of}
+use Rattle.grammar_rules.specs.Counted.{Counted, both, past, joined_to, bounded_from, many_from, chain, item, list_of}
 use Rattle.grammar_rules.specs.CountedReaders.{CountedReader, read_both, read_counted_past, read_bounded_from, read_many_from, read_chain, read_links, read_item, read_list_of}
 use Rattle.grammar_rules.proofs.Clear.{Sight, Clear}
 use Rattle.grammar_rules.proofs.Alternatives.{cons_not_nil, Within_refl, clear-growing}
 use Rattle.grammar_rules.proofs.Sequences.{Apart, sequence_sight, clear-sequence}
 use Rattle.grammar_rules.proofs.Terminals.{nothing_sight, clear-nothing, clear-made, clear-wider}
 use Rattle.grammar_rules.proofs.Right.{Right, right-nothing, right-made, right-sequence}
-use Rattle.grammar_rules.proofs.Reading.{Exact, Reads, and_first, past_sight, then_sight, reads_then, reads-made}
+use Rattle.grammar_rules.proofs.Reading.{Exact, and_first, past_sight, then_sight, reads_then, reads-made}
 use Rattle.grammar_rules.proofs.Choices.{either_sight, clear-either, right-either}
 use Rattle.grammar_rules.proofs.Repetitions.{wide_sight, sees_repeat, headed_first}
 use Rattle.grammar_rules.proofs.Families.{right-growing}

@@ -1,8 +1,8 @@
 -- Rules with a count are read: one law a combinator, with one lookahead for all counts.
 use Rattle.std.proofs.Common.{◌≡◌, ℕ, zero, suc, ◌-◌, nat_lt, drop, arith, ◌&&◌, Bool, true, false, List, [], ◌∷◌, Option, Some, None, is_some, refl, ◌∙◌}
 use Rattle.std.proofs.lemmas.Bool.Decides.{nat_tests}
-use Rattle.grammar_rules.specs.Rules.{Rule, Verdict, takes, faults, refuses, limited, told, terminal, token, nothing, made, sequence, preceded_by, followed_by, either, one_of_two, where_room}
-use Rattle.grammar_rules.specs.Readers.{Outcome, found, failed, and_then, read_made, read_symbol, starts, read_terminal, is_seen, chosen, read_past, read_before, read_either, read_where_room}
+use Rattle.grammar_rules.specs.Rules.{Rule, Verdict, takes, faults, refuses, limited, told, terminal, nothing, made, where_room}
+use Rattle.grammar_rules.specs.Readers.{Outcome, found, failed, read_made, read_symbol, starts, read_terminal, is_seen, read_where_room}
 use Rattle.grammar_rules.specs.Counted.{Counted, plain, one_more, given, both, after, past, before, maybe, item}
 use Rattle.grammar_rules.specs.CountedReaders.{CountedReader, read_plain, read_one_more, read_given, read_both, read_after, read_counted_past, read_counted_before, read_maybe, read_item}
 use Rattle.grammar_rules.proofs.Clear.{Sight}

@@ -1,6 +1,6 @@
 -- A rule that says no more than another, part by part: so a longer depth says no less.
-use Rattle.std.proofs.Common.{ℕ, zero, suc, true, false, List, [], ◌∷◌, Some, None, inl, inr}
-use Rattle.grammar_rules.specs.Rules.{Rule, Last, nothing, made, sequence, alternatives, either, one_of_two, optional, headed, ◌&◌, followed_by, preceded_by, bounded, many, Within}
+use Rattle.std.proofs.Common.{ℕ, zero, suc, true, false, List, [], ◌∷◌, inl, inr}
+use Rattle.grammar_rules.specs.Rules.{Rule, Last, nothing, made, sequence, alternatives, either, one_of_two, headed, ◌&◌, followed_by, preceded_by, bounded, many, Within}
 use Rattle.grammar_rules.proofs.Alternatives.{Within_refl}
 
 pub within-made : {T K A B : Type 0} (f : A → B) (G H : Rule T K A) → Within G H → Within (made f G) (made f H)

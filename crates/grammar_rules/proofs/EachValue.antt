@@ -1,6 +1,6 @@
 -- What holds of each value that a rule spells: one law a combinator.
-use Rattle.std.proofs.Common.{◌≡◌, ℕ, zero, suc, Bool, true, false, List, [], ◌∷◌, ◌++◌, subst}
-use Rattle.grammar_rules.specs.Rules.{Rule, Verdict, takes, refuses, terminal, nothing, made, sequence, either, one_of_two, allowed, alternatives}
+use Rattle.std.proofs.Common.{◌≡◌, Bool, true, false, List, [], ◌∷◌, subst}
+use Rattle.grammar_rules.specs.Rules.{Rule, Verdict, takes, refuses, terminal, nothing, made, sequence, either, one_of_two, allowed}
 use Rattle.grammar_rules.specs.Spelled.{Each}
 
 pub each-terminal : {T K A : Type 0} (look : T → Verdict K A) (P : A → Type 0) → ((t : T) (a : A) → look t ≡ takes a → P a) → Each P (terminal look)

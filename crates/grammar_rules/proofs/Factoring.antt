@@ -1,9 +1,8 @@
 -- How rules are factored: each law says that two forms say the same.
-use Rattle.std.proofs.Common.{◌≡◌, ℕ, ◌-◌, nat_lt, ◌⊎◌, Bool, true, false, List, [], ◌∷◌, ◌++◌, refl, sym, ap, ◌∙◌, subst, inl, inr, append_assoc, append-nil}
-use Rattle.grammar_rules.specs.Rules.{Rule, Last, fits, faulty, Joined, Verdict, limited, terminal, nothing, made, sequence, begun, either, one_of_two, alternatives, Within, Same}
-use Rattle.grammar_rules.specs.Readers.{is_seen}
+use Rattle.std.proofs.Common.{◌≡◌, ℕ, ◌-◌, nat_lt, Bool, true, false, List, [], ◌++◌, refl, sym, ap, ◌∙◌, subst, inl, inr, append_assoc, append-nil}
+use Rattle.grammar_rules.specs.Rules.{Rule, Last, fits, Verdict, limited, terminal, nothing, made, sequence, begun, either, one_of_two, Within, Same}
 use Rattle.grammar_rules.specs.Counted.{Counted, one_more, given, both}
-use Rattle.grammar_rules.specs.Factored.{then_optional, verdict_made, merged, either_of}
+use Rattle.grammar_rules.specs.Factored.{then_optional}
 use Rattle.grammar_rules.proofs.Clear.{Closed}
 use Rattle.grammar_rules.proofs.Same.{same_refl, same_trans, same-either, same-sequence}
 

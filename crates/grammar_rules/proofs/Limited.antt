@@ -1,6 +1,6 @@
 -- Rules with limits, part by part, and what their answers say of the rules without.
-use Rattle.std.proofs.Common.{◌≡◌, ℕ, zero, suc, ◌+◌, ◌⊎◌, Bool, true, false, List, [], ◌∷◌, ◌++◌, Some, None, refl, sym, ap, ◌∙◌, inl, inr, append_assoc, if◌then◌else◌}
-use Rattle.grammar_rules.specs.Rules.{Rule, Last, fits, faulty, takes, faults, refuses, nothing, made, sequence, alternatives, either, one_of_two, optional, headed, ◌&◌, bounded, many, fault, MeetsFault, Limits, Within}
+use Rattle.std.proofs.Common.{◌≡◌, ℕ, zero, suc, ◌+◌, ◌⊎◌, Bool, true, false, List, [], ◌∷◌, ◌++◌, refl, sym, ap, ◌∙◌, inl, inr, append_assoc, if◌then◌else◌}
+use Rattle.grammar_rules.specs.Rules.{Rule, Last, fits, faulty, takes, faults, refuses, nothing, made, sequence, alternatives, either, one_of_two, headed, ◌&◌, bounded, many, fault, MeetsFault, Limits, Within}
 use Rattle.grammar_rules.proofs.Clear.{Closed}
 use Rattle.grammar_rules.proofs.Alternatives.{to_sum_right}
 

@@ -1,6 +1,6 @@
 -- Two choices that begin with different symbols are one choice.
-use Rattle.std.proofs.Common.{◌≡◌, ◌||◌, ◌&&◌, ◌⊎◌, Bool, true, false, List, [], ◌∷◌, ◌++◌, refl, sym, subst, inl, inr}
-use Rattle.grammar_rules.specs.Rules.{Rule, Last, fits, faulty, Joined, Verdict, takes, faults, refuses, limited, SpelledByOne, FrontOfOne, terminal, made, begun, either, one_of_two, Within, Same}
+use Rattle.std.proofs.Common.{◌≡◌, ◌||◌, ◌&&◌, ◌⊎◌, Bool, true, false, List, [], ◌∷◌, ◌++◌, refl, subst, inl, inr}
+use Rattle.grammar_rules.specs.Rules.{Rule, Last, fits, faulty, Verdict, takes, faults, refuses, limited, SpelledByOne, FrontOfOne, terminal, made, begun, either, one_of_two, Same}
 use Rattle.grammar_rules.specs.Readers.{is_seen}
 use Rattle.grammar_rules.specs.Factored.{verdict_made, merged, either_of}
 use Rattle.grammar_rules.proofs.Same.{same_refl}

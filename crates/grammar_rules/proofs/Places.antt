@@ -1,5 +1,5 @@
 -- The place of the first symbol that is left.
-use Rattle.std.proofs.Common.{◌≡◌, ℕ, suc, ◌-◌, List, [], ◌∷◌, ◌++◌, length, drop, refl, sym, ap, ◌∙◌, arith, length-append}
+use Rattle.std.proofs.Common.{◌≡◌, ℕ, ◌-◌, List, ◌++◌, length, drop, sym, ap, ◌∙◌}
 use Rattle.grammar_rules.proofs.Answering.{left_over}
 use Rattle.grammar_rules.specs.Placed.{Placed, first_place, place_at}
 

@@ -1,8 +1,8 @@
 -- What is printed is spelled: one law a combinator, for a law of printing over a tree.
-use Rattle.std.proofs.Common.{◌≡◌, ℕ, zero, suc, ◌-◌, nat_lt, Bool, true, false, List, [], ◌∷◌, ◌++◌, Option, Some, None, refl, sym, ap, ◌∙◌, subst, append_assoc, append-nil, arith}
+use Rattle.std.proofs.Common.{◌≡◌, ℕ, zero, suc, ◌-◌, nat_lt, Bool, true, false, List, [], ◌∷◌, ◌++◌, Option, Some, None, refl, sym, ap, subst, append_assoc, append-nil, arith}
 use Rattle.std.proofs.lemmas.Bool.Decides.{nat_tests}
-use Rattle.grammar_rules.specs.Rules.{Rule, Verdict, takes, begun, terminal, token, nothing, made, sequence, ◌&◌, preceded_by, followed_by, headed, either, one_of_two, optional, bounded, many, allowed, where_room}
-use Rattle.grammar_rules.specs.Counted.{Counted, one_more, item, given, both, joined_to, bounded_from, many_from, chain}
+use Rattle.grammar_rules.specs.Rules.{Rule, Verdict, takes, begun, token, nothing, made, sequence, ◌&◌, preceded_by, followed_by, headed, either, optional, bounded, many, allowed}
+use Rattle.grammar_rules.specs.Counted.{Counted, one_more, item, both, many_from, chain}
 use Rattle.grammar_rules.specs.Spelled.{Prints, All, print_all}
 
 -- ---- a value and its text

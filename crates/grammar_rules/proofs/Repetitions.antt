@@ -8,7 +8,7 @@ use Rattle.grammar_rules.proofs.Alternatives.{cons_not_nil}
 use Rattle.grammar_rules.proofs.Sequences.{sequence_sight, clear-sequence}
 use Rattle.grammar_rules.proofs.Terminals.{nothing_sight, clear-nothing, clear-made, Sees, clear-wider}
 use Rattle.grammar_rules.proofs.Right.{Right, right-nothing, right-made, right-sequence}
-use Rattle.grammar_rules.proofs.Reading.{Exact, Reads, or_cases, and_first, and_second}
+use Rattle.grammar_rules.proofs.Reading.{Exact, or_cases, and_first, and_second}
 use Rattle.grammar_rules.proofs.Choices.{either_sight, clear-either, right-either}
 
 -- the lookahead of up to n of a rule and then an end, and of the end alone
@@ -26,9 +26,6 @@ wide_sight s e = record {
   null = true;
   more = λ x. (s.first x || s.more x) || (e.first x || e.more x);
 }
-
-or_left_of : (a b c : Bool) → a ≡ true → ((a || b) || c) ≡ true
-or_left_of a b c e = or_left (a || b) c (or_left a b e)
 
 or_both : (a b c : Bool) → (a && b) ≡ false → (a && c) ≡ false → (a && (b || c)) ≡ false
 or_both true b c e f = rw (e, f)
@@ -99,9 +96,6 @@ module _ {T K A : Type 0} (G : Rule T K A) (s : Sight T) (end : Rule T K (List A
         more = λ x q. q;
       }) (clear_next n (clear_wide n))
 
-  pub clear-bounded : (n : ℕ) → Clear (bounded (suc n) G end) (repeat_sight s e)
-  clear-bounded n = clear_next n (clear_wide n)
-
   -- the reader, where the rule's and the end's are right
   module _ (read : List T → Outcome T K A) (stop : List T → Outcome T K (List A)) (exact : Exact G s.first) (right : (ts : List T) → Right G ts (read ts)) (right_end : (ts : List T) → Right end ts (stop ts)) where
     headed_exact : (n : ℕ) → Exact (headed G (bounded n G end)) s.first
@@ -135,11 +129,3 @@ module _ {T K A : Type 0} (G : Rule T K A) (s : Sight T) (end : Rule T K (List A
         (λ a left. read_made (λ rest. a ∷ rest) (read_bounded n s.first read stop left))
         (λ a left. right-made (λ rest. a ∷ rest) (bounded n G end) left (read_bounded n s.first read stop left) (right-bounded n left)))
         (right-nothing [] ts)
-
-    pub reads-bounded : (n : ℕ) → Reads (bounded (suc n) G end) (repeat_sight s e) (read_bounded (suc n) s.first read stop)
-    reads-bounded n = record {
-      clear = clear-bounded n;
-      exact = λ t q. let f = exact t q in (f.0, inr (true, inl f.1));
-      empty = λ q. ([], (false, (refl, refl)));
-      right = right-bounded (suc n);
-    }

@@ -1,12 +1,10 @@
 -- Two rules that say the same: part by part, and that readers and answers carry over.
-use Rattle.std.proofs.Common.{◌≡◌, ℕ, zero, suc, ◌⊎◌, Bool, true, false, List, [], ◌∷◌, ◌++◌, Some, None, inl, inr}
-use Rattle.grammar_rules.specs.Rules.{Rule, Last, fits, faulty, nothing, made, sequence, alternatives, either, one_of_two, many, Within, Same}
+use Rattle.std.proofs.Common.{List, [], ◌∷◌, ◌++◌, Some, None}
+use Rattle.grammar_rules.specs.Rules.{Rule, fits, faulty, made, sequence, either, Same}
 use Rattle.grammar_rules.specs.Readers.{Outcome, found, failed}
-use Rattle.grammar_rules.specs.Counted.{Counted, joined_to, bounded_from, many_from}
-use Rattle.grammar_rules.specs.Places.{Answer, value, refusal, Answers}
 use Rattle.grammar_rules.proofs.Clear.{Closed, Sight, Clear}
 use Rattle.grammar_rules.proofs.Alternatives.{Within_refl, Within_trans}
-use Rattle.grammar_rules.proofs.Depths.{within-made, within-sequence, within-alternatives, within-either, within-many}
+use Rattle.grammar_rules.proofs.Depths.{within-made, within-sequence, within-either}
 use Rattle.grammar_rules.proofs.Right.{Right}
 use Rattle.grammar_rules.proofs.Reading.{Reads}
 

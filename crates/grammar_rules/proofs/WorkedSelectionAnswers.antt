@@ -1,23 +1,21 @@
 -- All is tried ahead of the items, and what the parser of selections answers.
-use Rattle.std.proofs.Common.{◌≡◌, ◌≢◌, ℕ, ◌-◌, ◌⊎◌, Bool, true, false, List, [], ◌∷◌, ◌++◌, length, Option, Some, None, Result, Ok, Err, IfSome, refl, sym, ap, ◌∙◌, subst, inl, inr, arith}
+use Rattle.std.proofs.Common.{◌≡◌, ◌≢◌, ℕ, ◌-◌, ◌⊎◌, true, false, List, [], ◌∷◌, ◌++◌, length, Option, Some, None, Err, IfSome, refl, sym, ap, subst, inl, inr, arith}
 use Rattle.grammar_rules.specs.declared.worked.selections.Word.{Word}
 use Rattle.grammar_rules.specs.declared.worked.selections.Word.TheVariants.{Number, Name, Dash, Dot, Star, Comma}
 use Rattle.grammar_rules.specs.declared.worked.selections.Class.{Class}
 use Rattle.grammar_rules.specs.declared.worked.selections.Class.TheVariants.{Names, Dots, Stars}
-use Rattle.grammar_rules.specs.declared.worked.selections.Item.{Item}
 use Rattle.grammar_rules.specs.declared.worked.selections.Selection.{Selection}
 use Rattle.grammar_rules.specs.declared.worked.selections.Selection.TheVariants.{All, Listed}
-use Rattle.grammar_rules.specs.declared.worked.selections.SelectionError.{SelectionError}
 use Rattle.grammar_rules.specs.declared.worked.selections.Stop.{Stop}
 use Rattle.grammar_rules.specs.declared.worked.selections.Stop.TheVariants.{Unfit, ManyItems, ManyValues, Memory}
-use Rattle.grammar_rules.specs.Rules.{Rule, Last, fits, faulty, takes, faults, FrontOfOne, terminal, token, nothing, made, preceded_by}
+use Rattle.grammar_rules.specs.Rules.{Rule, Last, fits, faulty, takes, faults, FrontOfOne, token, nothing, made, preceded_by}
 use Rattle.grammar_rules.specs.Readers.{Outcome, found, failed, read_made, read_past, answer_named}
 use Rattle.grammar_rules.specs.CountedReaders.{read_chain, read_links, read_many_from}
 use Rattle.grammar_rules.specs.Places.{Answer, value, refusal, named_first, AnswersNamed}
-use Rattle.grammar_rules.specs.WorkedSelections.{Fault, of, is, number, name, item, items, all_of, selection, star_name}
+use Rattle.grammar_rules.specs.WorkedSelections.{Fault, of, is, name, item, items, all_of, selection, star_name}
 use Rattle.grammar_rules.specs.WorkedSelectionReaders.{read_name, read_head, read_name_rest, read_item, read_items, read_all_of, read_selection}
-use Rattle.grammar_rules.specs.WorkedSelecting.{Gives, fault_of, refused_at, error_of, answer_of}
-use Rattle.grammar_rules.proofs.Clear.{Closed, Sight}
+use Rattle.grammar_rules.specs.WorkedSelecting.{fault_of, refused_at, error_of, answer_of}
+use Rattle.grammar_rules.proofs.Clear.{Sight}
 use Rattle.grammar_rules.proofs.Alternatives.{cons_not_nil}
 use Rattle.grammar_rules.proofs.Terminals.{nothing_sight}
 use Rattle.grammar_rules.proofs.Right.{Right}

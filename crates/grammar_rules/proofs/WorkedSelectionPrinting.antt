@@ -1,16 +1,14 @@
 -- What is printed of a selection is spelled.
-use Rattle.std.proofs.Common.{◌≡◌, ℕ, zero, suc, ◌+◌, ◌-◌, ◌≤◌, nat_lt, Bool, true, false, List, [], ◌∷◌, ◌++◌, length, refl, sym, ap, ◌∙◌, subst, arith}
-use Rattle.grammar_rules.specs.declared.worked.selections.Word.{Word}
+use Rattle.std.proofs.Common.{◌≡◌, ℕ, suc, ◌+◌, ◌-◌, List, [], ◌∷◌, length, refl, arith}
 use Rattle.grammar_rules.specs.declared.worked.selections.Word.TheVariants.{Number, Name, Dash, Dot, Star, Comma}
 use Rattle.grammar_rules.specs.declared.worked.selections.Class.TheVariants.{Dashes, Dots, Stars, Commas}
 use Rattle.grammar_rules.specs.declared.worked.selections.Item.{Item}
 use Rattle.grammar_rules.specs.declared.worked.selections.Item.TheVariants.{One, Range, Path}
-use Rattle.grammar_rules.specs.declared.worked.selections.Selection.{Selection}
 use Rattle.grammar_rules.specs.declared.worked.selections.Selection.TheVariants.{All, Listed}
-use Rattle.grammar_rules.specs.Rules.{Rule, terminal, either, made, preceded_by, token, nothing}
-use Rattle.grammar_rules.specs.Counted.{Counted, given, both, past, many_from, item as counted_item, list_of}
+use Rattle.grammar_rules.specs.Rules.{either, made, preceded_by, token, nothing}
+use Rattle.grammar_rules.specs.Counted.{given, both, past, many_from, item as counted_item}
 use Rattle.grammar_rules.specs.Spelled.{Prints, print_all}
-use Rattle.grammar_rules.specs.WorkedSelections.{Fault, too_many_values, of, number, name, a_number, a_name, range, path, item, over, items, all_of, selection}
+use Rattle.grammar_rules.specs.WorkedSelections.{too_many_values, of, number, name, a_number, a_name, range, path, item, over, items, all_of, selection}
 use Rattle.grammar_rules.specs.WorkedSelectionPrinted.{print_item, print_items, print_selection, values_in, values_of, AreWithin, HasText}
 use Rattle.grammar_rules.proofs.Printing.{spelled-made, spelled-first, spelled-second, spelled-past, spelled-begun, spelled-one_more, spelled-both, spelled-room, spelled-many_from_nil, spelled-many_from_cons, spelled-chain}
 

@@ -1,31 +1,29 @@
 -- The readers of the grammar of selections read its rules: each side condition is a test over all classes.
-use Rattle.std.proofs.Common.{◌≡◌, ℕ, zero, suc, ◌-◌, nat_lt, ◌||◌, ◌&&◌, ◌⊎◌, Bool, true, false, List, [], ◌∷◌, ◌++◌, Option, Some, None, is_some, refl, sym, ap, ◌∙◌, subst, inl, inr}
+use Rattle.std.proofs.Common.{◌≡◌, ℕ, ◌-◌, nat_lt, ◌||◌, ◌&&◌, ◌⊎◌, Bool, true, false, is_some, refl, inl, inr}
 use Rattle.grammar_rules.specs.declared.worked.selections.Word.{Word}
 use Rattle.grammar_rules.specs.declared.worked.selections.Word.TheVariants.{Number, Name, Dash, Dot, Star, Comma}
 use Rattle.grammar_rules.specs.declared.worked.selections.Class.{Class}
 use Rattle.grammar_rules.specs.declared.worked.selections.Class.TheVariants.{Numbers, Names, Dashes, Dots, Stars, Commas}
 use Rattle.grammar_rules.specs.declared.worked.selections.Item.{Item}
 use Rattle.grammar_rules.specs.declared.worked.selections.Item.TheVariants.{One, Range, Path}
-use Rattle.grammar_rules.specs.declared.worked.selections.Selection.{Selection}
-use Rattle.grammar_rules.specs.declared.worked.selections.Selection.TheVariants.{All, Listed}
-use Rattle.grammar_rules.specs.Rules.{Rule, Verdict, limited, terminal, token, nothing, made, sequence, begun, either, preceded_by, Same}
-use Rattle.grammar_rules.specs.Factored.{merged, either_of, then_optional}
-use Rattle.grammar_rules.specs.Counted.{Counted, one_more, given, both, past, after, many_from, list_of, item as counted_item}
-use Rattle.grammar_rules.specs.Readers.{Outcome, found, failed, and_then, read_made, read_terminal, read_begun, read_past, is_seen}
-use Rattle.grammar_rules.specs.CountedReaders.{CountedReader, read_counted_past, read_many_from, read_links, read_item as read_one_of, read_list_of}
-use Rattle.grammar_rules.specs.WorkedSelections.{Fault, too_many_items, too_many_values, class_of, number_of, all_classes, is, of, number, name, a_number, a_name, range, path, item, over, items, all_of, selection}
-use Rattle.grammar_rules.specs.WorkedSelectionReaders.{value, head, number_rest, name_rest, rest, factored_item, read_number, read_name, read_head, read_number_rest, read_name_rest, read_rest, read_item, read_listed, read_items, read_all_of, read_selection}
+use Rattle.grammar_rules.specs.Rules.{Rule, Verdict, limited, terminal, nothing, made, begun, either, Same}
+use Rattle.grammar_rules.specs.Factored.{merged, either_of}
+use Rattle.grammar_rules.specs.Counted.{given, past, many_from, list_of, item as counted_item}
+use Rattle.grammar_rules.specs.Readers.{found, read_made, is_seen}
+use Rattle.grammar_rules.specs.CountedReaders.{read_counted_past, read_many_from, read_links, read_item as read_one_of, read_list_of}
+use Rattle.grammar_rules.specs.WorkedSelections.{Fault, too_many_values, class_of, number_of, all_classes, is, of, number, name, a_number, a_name, range, path, item, over, items}
+use Rattle.grammar_rules.specs.WorkedSelectionReaders.{value, head, number_rest, name_rest, rest, factored_item, read_number, read_name, read_head, read_number_rest, read_name_rest, read_rest, read_item, read_listed, read_items}
 use Rattle.grammar_rules.proofs.Clear.{Sight}
 use Rattle.grammar_rules.proofs.Terminals.{nothing_sight, closed-terminal}
-use Rattle.grammar_rules.proofs.Reading.{Reads, token_sight, past_sight, reads-nothing, reads-made, reads-past}
+use Rattle.grammar_rules.proofs.Reading.{Reads, token_sight, past_sight, reads-nothing, reads-made}
 use Rattle.grammar_rules.proofs.Choices.{either_sight, reads-either}
 use Rattle.grammar_rules.proofs.Many.{many_sight}
-use Rattle.grammar_rules.proofs.Counts.{CountedReads, reads_look, seen_limited, reads-one_more, reads-counted_past, reads-item as reads-one_of}
+use Rattle.grammar_rules.proofs.Counts.{CountedReads, seen_limited, reads-one_more, reads-counted_past, reads-item as reads-one_of}
 use Rattle.grammar_rules.proofs.CountedMany.{CountedShrinks, counted_shrinks, reads-many_from, list_sight, reads-list_of}
-use Rattle.grammar_rules.proofs.Begun.{begun_sight, reads-begun, reads-counted_begun}
+use Rattle.grammar_rules.proofs.Begun.{reads-counted_begun}
 use Rattle.grammar_rules.proofs.Classes.{by_class, Every, every_at, apart_by, distinct_by, more_by, reads_by}
 use Rattle.grammar_rules.proofs.Same.{same_refl, same_sym, same_trans, same-either, same-sequence, reads-same}
-use Rattle.grammar_rules.proofs.Factoring.{same_made_first, same_one_and, same_one_alone, same_swapped, same_then_optional}
+use Rattle.grammar_rules.proofs.Factoring.{same_made_first, same_one_and, same_one_alone, same_then_optional}
 use Rattle.grammar_rules.proofs.Merging.{same_merged, same_terminal, merged_limited}
 
 every : Every all_classes

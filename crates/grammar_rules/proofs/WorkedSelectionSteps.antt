@@ -1,5 +1,5 @@
 -- The steps of the parser of selections, as equations of its readers.
-use Rattle.std.proofs.Common.{◌≡◌, ℕ, zero, suc, ◌-◌, nat_lt, ◌⊎◌, ◌||◌, Bool, true, false, List, [], ◌∷◌, ◌++◌, drop, Option, Some, None, Result, Ok, Err, refl, sym, ap, ◌∙◌, inl, inr, arith}
+use Rattle.std.proofs.Common.{◌≡◌, ℕ, ◌-◌, nat_lt, ◌⊎◌, true, false, List, [], ◌∷◌, ◌++◌, drop, Option, Some, None, Result, Ok, Err, refl, ap, ◌∙◌, inl, inr, arith}
 use Rattle.std.proofs.lemmas.Bool.Decides.{nat_tests}
 use Rattle.grammar_rules.specs.declared.worked.selections.Word.{Word}
 use Rattle.grammar_rules.specs.declared.worked.selections.Word.TheVariants.{Number, Name, Dash, Dot, Star, Comma}
@@ -11,14 +11,13 @@ use Rattle.grammar_rules.specs.declared.worked.selections.Item.TheVariants.{One,
 use Rattle.grammar_rules.specs.declared.worked.selections.Selection.{Selection}
 use Rattle.grammar_rules.specs.declared.worked.selections.Selection.TheVariants.{All, Listed}
 use Rattle.grammar_rules.specs.declared.worked.selections.Stop.{Stop}
-use Rattle.grammar_rules.specs.Readers.{Outcome, found, failed, and_then, read_made, read_past, starts, unless_found}
-use Rattle.grammar_rules.specs.CountedReaders.{CountedReader, read_counted_past, read_links}
-use Rattle.grammar_rules.specs.WorkedSelections.{Fault, too_many_items, too_many_values, of, number, name, over}
+use Rattle.grammar_rules.specs.Readers.{Outcome, found, failed, read_made, read_past, starts, unless_found}
+use Rattle.grammar_rules.specs.CountedReaders.{read_counted_past, read_links}
+use Rattle.grammar_rules.specs.WorkedSelections.{Fault, too_many_values, of, number, name}
 use Rattle.grammar_rules.specs.WorkedSelectionReaders.{value, read_number, read_name, read_head, read_number_rest, read_name_rest, read_rest, read_item, read_listed, read_items, read_all_of, read_selection}
 use Rattle.grammar_rules.specs.WorkedSelecting.{GivesCounted, head_of, HeadAt, over_first, IsFailed}
-use Rattle.grammar_rules.proofs.Reading.{past_sight, token_sight}
-use Rattle.grammar_rules.proofs.Counts.{one_more_refused, one_more_over, one_more_taken, reads-counted_past}
-use Rattle.grammar_rules.proofs.CountedMany.{CountedShrinks, counted_shrinks, chain_fail, list_begin, links_step, links_stop, links_fail}
+use Rattle.grammar_rules.proofs.Counts.{one_more_refused, one_more_over, one_more_taken}
+use Rattle.grammar_rules.proofs.CountedMany.{chain_fail, list_begin, links_step, links_stop, links_fail}
 use Rattle.grammar_rules.proofs.WorkedSelectionReads.{head_first, seen_number, seen_name, seen_value, less_name, less_item}
 
 -- ---- values

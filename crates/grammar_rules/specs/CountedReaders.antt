@@ -1,7 +1,7 @@
 -- The readers of rules with a count, which mirror the rules.
 use Rattle.std.specs.Prelude.{ℕ, zero, suc, ◌-◌, nat_lt, Bool, List, [], ◌∷◌, ◌++◌, length, Option, Some, None}
 use Rattle.grammar_rules.specs.Rules.{Verdict, limited}
-use Rattle.grammar_rules.specs.Readers.{Outcome, found, failed, and_then, read_made, read_terminal, starts, chosen, read_past, read_before, read_where_room}
+use Rattle.grammar_rules.specs.Readers.{Outcome, found, and_then, read_made, read_terminal, starts, chosen, read_past, read_before, read_where_room}
 use Rattle.grammar_rules.specs.Counted.{joined_to}
 
 -- a reader from each count, of a value and the count behind it

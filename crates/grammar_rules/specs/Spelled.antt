@@ -1,5 +1,5 @@
 -- What a rule's texts tell of its values, and a printer's values of its texts.
-use Rattle.std.specs.Prelude.{ℕ, List, [], ◌∷◌, ◌++◌}
+use Rattle.std.specs.Prelude.{List, [], ◌∷◌, ◌++◌}
 use Rattle.grammar_rules.specs.Rules.{Rule}
 
 -- this holds of each value that the rule spells

@@ -1,5 +1,5 @@
 -- What the functions of the parser of selections answer, seen as outcomes and as answers.
-use Rattle.std.specs.Prelude.{◌≡◌, ◌≢◌, ℕ, ◌-◌, ◌⊎◌, List, [], ◌∷◌, drop, Bool, false, Option, Some, None, Result, Ok, Err}
+use Rattle.std.specs.Prelude.{◌≡◌, ◌≢◌, ℕ, ◌⊎◌, List, [], ◌∷◌, drop, false, Option, Some, None, Result, Ok, Err}
 use mathlib.Core.Logic.{inl, inr}
 use Rattle.grammar_rules.specs.declared.worked.selections.Word.{Word}
 use Rattle.grammar_rules.specs.declared.worked.selections.Word.TheVariants.{Number, Name}

@@ -1,9 +1,7 @@
 //! Worked examples: each function on a happy path, and a refusal of each kind.
 
 use crate::Cursor;
-use crate::worked::arithmetic::{
-    Expression, ParseError, Token, fronts_begin_expressions, parse,
-};
+use crate::worked::arithmetic::{Expression, ParseError, Token, fronts_begin_expressions, parse};
 use crate::worked::keyed::{KeyedError, Sign, read_entries};
 use crate::worked::selections::{
     Selection, SelectionError, Word, printed_selections_are_spelled, read_selection_of,
@@ -99,11 +97,38 @@ fn worked_selections(rt: HostRuntime) -> Result<(), Fail> {
     use Word::{Comma, Dash, Dot, Name, Number, Star};
     let selections: &[(&[Word], (u8, usize))] = &[
         (&[Name(1), Dot, Star], (0, 0)),
-        (&[Name(1), Dot, Name(2), Comma, Number(3), Dash, Number(4)], (0, 2)),
+        (
+            &[Name(1), Dot, Name(2), Comma, Number(3), Dash, Number(4)],
+            (0, 2),
+        ),
         (&[Name(1), Dot], (1, 2)),
         (&[Number(1), Comma, Name(1), Dot, Star], (2, 4)),
-        (&[Number(1), Comma, Number(2), Comma, Number(3), Comma, Number(4)], (4, 6)),
-        (&[Name(1), Dot, Name(2), Dot, Name(3), Dot, Name(4), Dot, Name(5)], (5, 8)),
+        (
+            &[
+                Number(1),
+                Comma,
+                Number(2),
+                Comma,
+                Number(3),
+                Comma,
+                Number(4),
+            ],
+            (4, 6),
+        ),
+        (
+            &[
+                Name(1),
+                Dot,
+                Name(2),
+                Dot,
+                Name(3),
+                Dot,
+                Name(4),
+                Dot,
+                Name(5),
+            ],
+            (5, 8),
+        ),
     ];
     assert!(rt; first_wrong_selection(rt.alloc(), selections).is_none());
     printed_selections_are_spelled();

@@ -5,7 +5,7 @@ use Rattle.std.proofs.Common.{sym, ap, subst, arith}
 use Rattle.std.proofs.lemmas.Bool.{and_from, or_from, or_parts, cond_both, not-true, not_from_false, le-leb}
 use Rattle.std.proofs.lemmas.Bool.Decides.{nat_tests}
 use lib.Utf8.{encode}
-use Rattle.grammar_rules.specs.Rules.{Rule, Verdict, takes, refuses, terminal, token, nothing, made, sequence, ◌&◌, followed_by, preceded_by, one_of_two, either, optional, allowed, member, without, some_members, members}
+use Rattle.grammar_rules.specs.Rules.{Rule, takes, refuses, terminal, token, nothing, made, sequence, ◌&◌, followed_by, preceded_by, optional, allowed, member, without, some_members, members}
 use Rattle.grammar_rules.specs.Spelled.{Each}
 use Rattle.grammar_rules.proofs.EachValue.{each-terminal, each-nothing, each-made, each-of_two, each-either, each-sequence, each-allowed}
 use Rattle.request_elements.specs.declared.element.Element.{Element}
