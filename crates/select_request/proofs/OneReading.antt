@@ -4,7 +4,8 @@ use Rattle.std.proofs.Common.{sym, ◌∙◌, ap, arith, inl, inr}
 use Rattle.std.proofs.lemmas.Bool.{ltb-true}
 use Rattle.std.proofs.lemmas.Bool.Decides.{nat_tests}
 use Rattle.grammar_rules.specs.Readers.{Outcome, found as reached, failed}
-use Rattle.request_elements.specs.Pieces.{Symbol, first_place, symbols_of}
+use Rattle.grammar_rules.specs.Placed.{first_place}
+use Rattle.request_elements.specs.Pieces.{Symbol, symbols_of}
 use Rattle.request_elements.specs.Body.{HasElements, IsMalformed}
 use Rattle.request_elements.specs.Readers.{read_body}
 use Rattle.request_elements.specs.declared.found.Found.{Found}
