@@ -1,4 +1,4 @@
-use Rattle.std.proofs.Common.{◌≡◌, ℕ, ◌+◌, ◌-◌, ◌≤◌, List, false}
+use Rattle.std.proofs.Common.{◌≡◌, ℕ, ◌-◌, ◌≤◌, List, false}
 use Rattle.select_ports.specs.Stored.{IsOpen}
 use Rattle.line_window.specs.Sliding.{Tells, Holds, IsSound, SameRules, Took, left}
 use Rattle.select_engine.specs.Streaming.{Streamed}
