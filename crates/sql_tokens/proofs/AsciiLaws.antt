@@ -1,10 +1,10 @@
--- A text may be cut behind an ASCII byte, and before one.
-use Rattle.std.proofs.Common.{◌≡◌, ℕ, zero, suc, ◌+◌, ◌-◌, ◌<◌, ◌≤◌, Bool, true, false, List, [], ◌∷◌, length, drop, slice_index, refl, sym, ◌∙◌, arith, length-drop, subst}
+-- A text may be cut behind an ASCII byte.
+use Rattle.std.proofs.Common.{◌≡◌, ℕ, zero, suc, ◌+◌, ◌-◌, ◌<◌, Bool, true, List, ◌∷◌, length, slice_index, sym, arith, subst}
 use Rattle.std.specs.List.{prefix_len}
 use Rattle.std.specs.Char.{is_ascii_digit}
 use Rattle.std.specs.Str.{IsUtf8, IsCharBoundary}
 use Rattle.std.proofs.lemmas.Bool.Decides.{nat_tests}
-use Rattle.std.proofs.lemmas.Str.{IsCharBoundary-start, IsCharBoundary-after_ascii, IsCharBoundary-before_ascii}
+use Rattle.std.proofs.lemmas.Str.{IsCharBoundary-start, IsCharBoundary-after_ascii}
 use Rattle.std.proofs.lemmas.List.Sums.{prefix_len_passes, prefix_len-le-length}
 use Rattle.sql_tokens.specs.TokenForms.{is_blank, is_word_byte}
 use Rattle.sql_tokens.specs.Fronts.{IsAsciiFront}
@@ -54,23 +54,3 @@ behind_one b bs (suc n) l f =
     let z : suc n - 1 ≡ n = omega arith in
     let y : suc n + 1 - 1 ≡ suc n = omega arith in
     record { within = let w = f.within in omega arith; last = λ m. let Q : ℕ → Type 0 = λ k. slice_index bs k < 128 in rw y (subst Q z (f.last (omega arith))) }
-
--- before an ASCII byte
-pub cut_before_ascii : (bs : List ℕ) (n : ℕ) → n < length bs → slice_index bs n < 128 → IsCharBoundary bs n
-cut_before_ascii bs n l a = IsCharBoundary-before_ascii bs n l a
-
-get_drop : (n k : ℕ) (bs : List ℕ) → slice_index (drop n bs) k ≡ slice_index bs (n + k)
-get_drop zero k bs = let z : 0 + k ≡ k = omega arith in rw z refl
-get_drop (suc n) k [] = refl
-get_drop (suc n) k (b ∷ bs) = let z : suc n + k ≡ suc (n + k) = omega arith in rw z (get_drop n k bs)
-
--- one front behind another
-pub joined : (bs : List ℕ) (n k : ℕ) → IsAsciiFront bs n → IsAsciiFront (drop n bs) k → IsAsciiFront bs (n + k)
-joined bs n zero f g = let z : n + 0 ≡ n = omega arith in rw z f
-joined bs n (suc k) f g =
-    let z : suc k - 1 ≡ k = omega arith in
-    let y : n + suc k - 1 ≡ n + k = omega arith in
-    record {
-      within = let w = g.within in let v = f.within in let d = length-drop n bs in omega arith;
-      last = λ m. let Q : ℕ → Type 0 = λ j. slice_index (drop n bs) j < 128 in rw (y, ← get_drop n k bs) (subst Q z (g.last (omega arith)));
-    }

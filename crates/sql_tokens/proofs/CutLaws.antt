@@ -1,9 +1,9 @@
 -- Tokens in front of a text, as the code cuts them.
-use Rattle.std.proofs.Common.{◌≡◌, ℕ, zero, suc, ◌+◌, ◌-◌, ◌<◌, ◌≤◌, ◌==◌, ◌&&◌, Bool, true, false, List, [], ◌∷◌, length, take, drop, slice_index, refl, sym, ap, ◌∙◌, arith, eqb-true, ne_eqb, if◌then◌else◌, Option, Some, None, subst}
+use Rattle.std.proofs.Common.{◌≡◌, ℕ, suc, ◌+◌, ◌<◌, ◌==◌, ◌&&◌, Bool, true, false, List, [], ◌∷◌, length, take, drop, refl, sym, arith, eqb-true, ne_eqb, if◌then◌else◌, Option, Some, None, subst}
 use Rattle.std.proofs.lemmas.List.{length-take-le}
 use Rattle.sql_tokens.specs.declared.class.Class.{Class}
 use Rattle.sql_tokens.specs.declared.class.Class.TheVariants.{LeftParenthesis, RightParenthesis, Comma, Dot, LeftBracket, RightBracket, Star, Plus, Minus, Slash, Percent, Equal, NotEqual, Less, LessOrEqual, Greater, GreaterOrEqual, Semicolon}
-use Rattle.sql_tokens.specs.TokenForms.{Token, quoted_name, text_literal, punctuation, unfit, length_of, punctuation_length, closing, name_by, text_by, is_called, begins, less_by, greater_by, single, single_token, punctuation_token}
+use Rattle.sql_tokens.specs.TokenForms.{quoted_name, text_literal, punctuation, punctuation_length, name_by, text_by, is_called, begins, less_by, greater_by, single, single_token, punctuation_token}
 use Rattle.sql_tokens.specs.Fronts.{IsAsciiFront}
 use Rattle.sql_tokens.proofs.AsciiLaws.{behind_one, no_front}
 

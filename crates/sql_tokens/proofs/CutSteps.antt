@@ -3,7 +3,7 @@ use Rattle.std.proofs.Common.{◌≡◌, ℕ, zero, suc, ◌+◌, ◌-◌, ◌<�
 use Rattle.std.specs.List.{prefix_len}
 use Rattle.std.specs.Char.{is_ascii_digit}
 use Rattle.sql_tokens.specs.declared.class.Class.{Class}
-use Rattle.sql_tokens.specs.TokenForms.{Token, word, quoted_name, text_literal, whole_number, point_number, exponent_number, punctuation, unfit, length_of, punctuation_length, is_blank, is_letter, is_word_byte, is_called, begins, digits, closing, name_by, text_by, word_by, fraction_length, exponent_length, is_too_long, parts_number, plain_number, number_by, number_token, less_by, greater_by, single, single_token, punctuation_token, token_from, token_of}
+use Rattle.sql_tokens.specs.TokenForms.{Token, word, quoted_name, text_literal, whole_number, point_number, exponent_number, punctuation, unfit, length_of, punctuation_length, is_blank, is_letter, is_word_byte, begins, digits, closing, name_by, text_by, word_by, fraction_length, exponent_length, is_too_long, parts_number, number_by, number_token, less_by, greater_by, single, single_token, punctuation_token, token_from, token_of}
 use Rattle.std.proofs.lemmas.Bool.{lt-ltb, ltb-true, leb-true, leb-false}
 use Rattle.std.proofs.lemmas.List.{drop_all}
 use Rattle.sql_tokens.specs.Cutting.{Symbol, Remaining, cut_behind, cut}

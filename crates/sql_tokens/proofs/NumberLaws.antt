@@ -1,5 +1,5 @@
 -- How many digits of a number stand behind its leading zeros.
-use Rattle.std.proofs.Common.{◌≡◌, ℕ, ◌+◌, ◌-◌, ◌≤◌, ◌==◌, List, ◌++◌, length, length-append, refl, sym, ◌∙◌, arith, eqb, eq-eqb, cond, true, false, eqb-true, Bool}
+use Rattle.std.proofs.Common.{◌≡◌, ℕ, ◌+◌, ◌-◌, ◌≤◌, ◌==◌, List, ◌++◌, length, length-append, refl, arith, eqb, eq-eqb, true, false, eqb-true, Bool}
 use Rattle.std.specs.List.{prefix_len}
 use Rattle.std.proofs.lemmas.List.Folds.{prefix_len-append}
 use Rattle.sql_tokens.specs.TokenForms.{significant}

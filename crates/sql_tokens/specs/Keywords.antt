@@ -1,5 +1,5 @@
 -- The keywords of a query, in any ASCII case, and the class of a word.
-use Rattle.std.specs.Prelude.{Bool, true, false, ℕ, List, [], ◌∷◌, ◌==◌, length, codes, if◌then◌else◌}
+use Rattle.std.specs.Prelude.{Bool, ℕ, List, [], ◌∷◌, ◌==◌, length, codes, if◌then◌else◌}
 use Rattle.std.specs.Str.{str_eq_ignore_ascii_case}
 use Rattle.sql_tokens.specs.declared.class.Class.{Class}
 use Rattle.sql_tokens.specs.declared.class.Class.TheVariants.{Select, From, Where, Limit, As, And, Or, Not, In, Like, Escape, Between, Is, Null, Missing, True, False, Case, When, Then, Else, End, Cast, Leading, Trailing, Both, Name, NameCalled, S3Object, S3ObjectCalled, For, ForCalled, BoolType, BoolTypeCalled, IntType, IntTypeCalled, StringType, StringTypeCalled, TimestampType, TimestampTypeCalled, DecimalType, DecimalTypeCalled, Year, YearCalled, Month, MonthCalled, Day, DayCalled, Hour, HourCalled, Minute, MinuteCalled, Second, SecondCalled, TimezoneHour, TimezoneHourCalled, TimezoneMinute, TimezoneMinuteCalled, CountCalled, SumCalled, MinCalled, MaxCalled, AvgCalled, CoalesceCalled, NullifCalled, CharLengthCalled, LowerCalled, UpperCalled, SubstringCalled, TrimCalled, ExtractCalled, DateAddCalled, ToTimestampCalled}

@@ -1,7 +1,7 @@
 -- The tokens of a query: what each of them looks like, and which one begins a text.
 --
 -- Letters, digits and blanks are ASCII. Of two tokens that begin a text the longer one counts.
-use Rattle.std.specs.Prelude.{ℕ, zero, suc, ◌+◌, ◌-◌, Bool, true, false, ◌&&◌, ◌||◌, ◌==◌, nat_lt, List, [], ◌∷◌, ◌++◌, length, take, drop, Option, Some, None, if◌then◌else◌}
+use Rattle.std.specs.Prelude.{ℕ, zero, suc, ◌+◌, ◌-◌, Bool, false, ◌&&◌, ◌||◌, ◌==◌, nat_lt, List, [], ◌∷◌, ◌++◌, length, take, drop, Option, Some, None, if◌then◌else◌}
 use Rattle.std.specs.List.{prefix_len}
 use Rattle.std.specs.Char.{is_ascii_alphabetic, is_ascii_digit}
 use Rattle.sql_tokens.specs.declared.class.Class.{Class}
@@ -81,7 +81,8 @@ is_called bs = begins (λ b. b == 40) (drop (prefix_len is_blank bs) bs)
 
 -- ---- names and texts
 
--- the place of the first such quote that isn't doubled, but for the first `skip` bytes, the second of two among them
+-- the place of the first quote that isn't doubled, where the first byte is at this place; the first `skip` bytes are
+-- passed, since a quote among them is the second of two
 abbrev pub closing_behind : ℕ → ℕ → ℕ → List ℕ → Option ℕ
 closing_behind quote skip at [] = None
 closing_behind quote (suc skip) at (b ∷ bs) = closing_behind quote skip (at + 1) bs
@@ -179,10 +180,12 @@ single b =
     else (if b == 61 then Some Equal
     else (if b == 59 then Some Semicolon else None))))))))))))
 
+-- the symbol where there is one
 abbrev pub single_token : Option Class → List ℕ → Token
 single_token None bs = unfit bs
 single_token (Some c) bs = punctuation c
 
+-- the symbol that begins with b before these bytes, the longest
 unfoldable pub punctuation_token : ℕ → List ℕ → Token
 punctuation_token b bs =
     if b == 60 then punctuation (less_by bs)
@@ -196,10 +199,11 @@ punctuation_of (b ∷ bs) = punctuation_token b bs
 
 -- ---- all
 
+-- the word of the first n bytes
 abbrev pub word_by : ℕ → List ℕ → Token
 word_by n bs = word (is_called (drop n bs)) (take n bs)
 
--- the token that begins with b before these bytes
+-- the token that begins with b, which is no blank, before these bytes
 unfoldable pub token_from : ℕ → List ℕ → Token
 token_from b bs =
     if is_letter b then word_by (prefix_len is_word_byte (b ∷ bs)) (b ∷ bs)

@@ -1,6 +1,6 @@
 -- The name that closes, and the text behind it.
-use Rattle.std.proofs.Common.{◌≡◌, ◌∙◌, drop, sym, ap, Bool, ◌+◌}
-use Rattle.sql_tokens.specs.TokenForms.{closing, is_called, quoted_name, name_by}
+use Rattle.std.proofs.Common.{drop}
+use Rattle.sql_tokens.specs.TokenForms.{closing}
 use Rattle.sql_tokens.proofs.CutLaws.{name_closed, behind_quoted}
 use Rattle.sql_tokens.proofs.cutting.quoted_name.Goals as goal
 

@@ -1,5 +1,5 @@
 -- The text that closes, and the text behind it.
-use Rattle.std.proofs.Common.{drop, sym}
+use Rattle.std.proofs.Common.{drop}
 use Rattle.sql_tokens.specs.TokenForms.{closing}
 use Rattle.sql_tokens.proofs.CutLaws.{text_closed, behind_quoted}
 use Rattle.sql_tokens.proofs.cutting.text_literal.Goals as goal

@@ -1,5 +1,5 @@
 -- The first quote that isn't doubled closes.
-use Rattle.std.proofs.Common.{◌∙◌, ◌+◌, ◌≡◌, length, sym, ap, arith, Some}
+use Rattle.std.proofs.Common.{◌∙◌, ◌+◌, ◌≡◌, sym, arith, Some}
 use Rattle.sql_tokens.specs.TokenForms.{closing}
 use Rattle.sql_tokens.proofs.QuoteLaws.{closes, goes_on, never_closes, closing_is, closes_there}
 use Rattle.sql_tokens.proofs.scan.closing.Goals as goal

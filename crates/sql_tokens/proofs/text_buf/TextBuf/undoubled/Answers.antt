@@ -1,5 +1,5 @@
 -- One more quote is copied, or none is left.
-use Rattle.std.proofs.Common.{◌∙◌, ◌++◌, sym, ap, rules}
+use Rattle.std.proofs.Common.{◌∙◌, sym, rules}
 use Rattle.std.specs.Prelude.{string_bytes}
 use Rattle.sql_tokens.proofs.UndoubledLaws.{undoubled_step, undoubled_ends}
 use Rattle.sql_tokens.proofs.text_buf.TextBuf.undoubled.Goals as goal
