@@ -8,8 +8,6 @@ mod laws;
 mod places;
 mod sight;
 mod split;
-#[cfg(test)]
-mod tests;
 
 pub use crate::bits::take_lowest;
 pub use crate::laws::{added_bytes_keep, marks_are_places};

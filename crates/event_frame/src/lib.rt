@@ -13,8 +13,6 @@ mod message;
 mod products;
 mod reader;
 mod stream;
-#[cfg(test)]
-mod tests;
 mod writer;
 
 pub use counts::Counts;

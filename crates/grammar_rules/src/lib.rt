@@ -3,8 +3,6 @@
 #![tactic(auto)]
 
 mod cursor;
-#[cfg(test)]
-mod tests;
 pub mod worked;
 
 pub use cursor::Cursor;

@@ -5,8 +5,6 @@ mod buffer;
 mod delimiter;
 mod laws;
 mod line;
-#[cfg(test)]
-mod tests;
 mod window;
 
 pub use delimiter::is_delimiter;

@@ -13,6 +13,3 @@ pub use element::Element;
 pub use elements::{ElementsError, read_elements};
 pub use found::Found;
 pub use text_buf::TextBuf;
-
-#[cfg(test)]
-mod tests;

@@ -13,6 +13,3 @@ pub use asked::{Asked, prepare};
 pub use code::Code;
 pub use job::{refuse, run_job};
 pub use outcome::{EngineError, Outcome};
-
-#[cfg(test)]
-mod tests;

@@ -16,8 +16,6 @@ mod slices;
 mod std_streams;
 mod store;
 mod streams;
-#[cfg(test)]
-mod tests;
 
 pub use file_store::FileStore;
 pub use frame_sink::{FrameSink, Plain};

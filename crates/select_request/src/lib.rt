@@ -22,6 +22,3 @@ pub use request::{
     CsvInput, CsvOutput, Delimiter, Header, Input, Output, ScanRange, SelectRequest,
 };
 pub use request_elements::TextBuf;
-
-#[cfg(test)]
-mod tests;

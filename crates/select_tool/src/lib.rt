@@ -15,6 +15,3 @@ mod words;
 
 pub use commands::run;
 pub use laws::replies_have_one_listing;
-
-#[cfg(test)]
-mod tests;

@@ -11,8 +11,6 @@ mod print;
 mod read;
 mod reader;
 mod short;
-#[cfg(test)]
-mod tests;
 
 pub use crate::decimal::{Dec, NumFault};
 pub use crate::number::Num;

@@ -15,6 +15,3 @@ mod tokens;
 pub use class::Class;
 pub use text_buf::TextBuf;
 pub use tokens::Tokens;
-
-#[cfg(test)]
-mod tests;

@@ -9,8 +9,6 @@ mod output;
 mod pieces;
 mod plain;
 mod shapes;
-#[cfg(test)]
-mod tests;
 mod trim;
 mod view;
 

@@ -9,8 +9,6 @@ mod number;
 mod reader;
 mod skipping;
 mod stack;
-#[cfg(test)]
-mod tests;
 mod values;
 
 pub use crate::faults::{ThriftFault, ThriftFaultCode};

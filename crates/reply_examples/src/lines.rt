@@ -2,7 +2,7 @@
 ghost use Rattle.std.specs.Prelude.{◌≡◌, ◌<◌, ◌≤◌};
 ghost use Rattle.select_ports.specs.Stored.{IsOpen};
 
-use crate::{Line, Window, is_delimiter};
+use line_window::{Line, Window, is_delimiter};
 use select_ports::{Failed, Found, Limits, MemObject, MemStore, Range, Store};
 use std::alloc::Global;
 use std::process::Abort;

@@ -1,7 +1,10 @@
 //! What no clause says: the order of calls as a whole, and the real things.
 ghost use Rattle.std.specs.Prelude.{◌≤◌, IfOk, IfSome, length};
 
-use super::*;
+use select_ports::{
+    Failed, FileStore, Found, MemObject, MemSink, MemSource, MemStore, Sink, Source, StdSink,
+    StdSource, Store, write_all,
+};
 use std::alloc::Global;
 use std::io::{ErrorKind, Read};
 use std::path::PathBuf;

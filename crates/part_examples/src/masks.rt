@@ -1,5 +1,5 @@
 //! Worked examples: places across blocks, masks of short and long lines, and parts of lines.
-use crate::{
+use byte_masks::{
     Places, Span, added_bytes_keep, marks_are_places, see, see_block, split_plain, take_lowest,
 };
 use std::process::Abort;

@@ -1,7 +1,7 @@
 //! Texts of queries with their tokens, and texts that are none.
 
-use crate::{Class, TextBuf, Tokens};
 use sql_decimal::{Dec, Num};
+use sql_tokens::{Class, TextBuf, Tokens};
 use std::alloc::{AllocError, Global};
 use std::test::Fail;
 

@@ -2,7 +2,7 @@
 
 ghost use Rattle.std.specs.Prelude.{◌≡◌, Some};
 
-use crate::{Counts, EventView, FrameFault, FrameFaultCode, FrameReader, FrameWriter, crc32};
+use event_frame::{Counts, EventView, FrameFault, FrameFaultCode, FrameReader, FrameWriter, crc32};
 use select_ports::{Failed, FrameSink};
 use std::alloc::{AllocError, Global};
 use std::test::Fail;

@@ -1,4 +1,4 @@
-use super::*;
+use sql_decimal::{Dec, Num, NumFault};
 use std::cmp::Ordering;
 use std::process::Abort;
 use std::test::Fail;

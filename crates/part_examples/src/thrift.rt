@@ -1,4 +1,4 @@
-use crate::{Kind, Reader, ThriftFault, varint};
+use thrift_compact::{Kind, Reader, ThriftFault, varint};
 
 // The footer of a Parquet file with two row groups of two columns.
 const FOOTER: &[u8] = &[

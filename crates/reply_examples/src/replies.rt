@@ -1,7 +1,7 @@
 //! What no clause says: with memory at hand a body is read, and a reply is written. The lengths and CRCs of the replies were
 //! computed elsewhere.
-use crate::{Asked, Code, Outcome, prepare, refuse, run_job};
 use event_frame::{Counts, crc32};
+use select_engine::{Asked, Code, Outcome, prepare, refuse, run_job};
 use select_ports::{Found, Limits, MemObject, MemSink, MemStore, Plain, Store};
 use std::test::Fail;
 

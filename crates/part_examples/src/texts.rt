@@ -1,8 +1,8 @@
 //! Worked examples: escapes from RFC 8259, quoted fields, LIKE, and which texts are plain.
-use crate::{Buf, Pattern, Run, Side, Text, plain_field, plain_string};
 use std::alloc::Global;
 use std::process::Abort;
 use std::test::Fail;
+use text_view::{Buf, Pattern, Run, Side, Text, plain_field, plain_string};
 
 /// Writes the text out and compares its bytes.
 fn shows(alloc: Global, rt: &impl Abort, text: &Text<'_>, wanted: &str) -> Result<(), Fail> {

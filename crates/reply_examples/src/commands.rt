@@ -2,9 +2,9 @@
 //! call outside failing in turn.
 ghost use Rattle.std.specs.Prelude.{◌≤◌, length};
 
-use crate::run;
 use event_frame::{Counts, FrameWriter, crc32};
 use select_ports::{Failed, MemObject, MemSink, MemSource, MemStore, Plain};
+use select_tool::run;
 use std::alloc::Global;
 use std::process::Abort;
 use std::test::Fail;

@@ -1,9 +1,6 @@
 //! Bodies, and their elements or the first fault's place.
 
-use crate::element::Element;
-use crate::elements::{ElementsError, read_elements};
-use crate::found::Found;
-use crate::text_buf::TextBuf;
+use request_elements::{Element, ElementsError, Found, TextBuf, read_elements};
 use std::test::Fail;
 
 /// The number of elements, or the place that is refused.

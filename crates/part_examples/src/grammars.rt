@@ -1,9 +1,11 @@
 //! Worked examples: each function on a happy path, and a refusal of each kind.
 
-use crate::Cursor;
-use crate::worked::arithmetic::{Expression, ParseError, Token, fronts_begin_expressions, parse};
-use crate::worked::keyed::{KeyedError, Sign, read_entries};
-use crate::worked::selections::{
+use grammar_rules::Cursor;
+use grammar_rules::worked::arithmetic::{
+    Expression, ParseError, Token, fronts_begin_expressions, parse,
+};
+use grammar_rules::worked::keyed::{KeyedError, Sign, read_entries};
+use grammar_rules::worked::selections::{
     Selection, SelectionError, Word, printed_selections_are_spelled, read_selection_of,
 };
 use sqlite_items::Items;

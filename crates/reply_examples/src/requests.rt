@@ -1,5 +1,5 @@
 //! What no clause says: with memory at hand, bodies as clients write them are refused or read, and requests are printed.
-use crate::{
+use select_request::{
     CsvInput, CsvOutput, Delimiter, Header, Input, Output, ReadError, RequestFault,
     RequestFaultCode, ScanRange, SelectRequest, TextBuf, body_has_one_reading, print,
     printed_request_is_read, read,
