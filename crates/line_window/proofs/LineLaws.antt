@@ -6,7 +6,7 @@ use Rattle.std.specs.Prelude.{if◌then◌else◌}
 use Rattle.line_window.specs.declared.window.Body.{Body}
 use Rattle.line_window.specs.Starts.{is_start, before_delimiter, body}
 use Rattle.line_window.specs.Cuts.{cuts, cut_at, without_mark}
-use Rattle.line_window.specs.Delimiters.{is_delimiter, StandsAt, HasNone, IsFirstAt}
+use Rattle.line_window.specs.Delimiters.{StandsAt, HasNone}
 use Rattle.line_window.specs.Sliding.{View, Holds, IsSound, SameRules, kept_from, ahead}
 use Rattle.line_window.specs.Answers.{IsLent}
 use Rattle.line_window.specs.Steps.{IsNear, IsBody, Leaves}
@@ -201,22 +201,3 @@ lent_is object v b sound holds near is_body short =
             whole = omega (arith, opened.0);
           }
     ]
-
--- what a search of the bytes ahead found
-pub body_ended : (v : View) (len behind : ℕ) → is_delimiter v.delimiter ≡ true → behind ≡ length v.delimiter → IsFirstAt v.delimiter (ahead v) len
-    → IsBody v (record { len = len; behind = behind })
-body_ended v len behind is same first =
-    let some = (width v.delimiter is).0 in
-    record {
-      clear = first.before;
-      ended = λ more. (same, first.here);
-      open_ = λ none. absurd (omega arith);
-    }
-
-pub body_opened : (v : View) (len : ℕ) → len ≡ length (ahead v) → HasNone v.delimiter (ahead v) (length (ahead v))
-    → (len < v.longest + length v.delimiter → v.upto ≡ v.size) → IsBody v (record { len = len; behind = 0 })
-body_opened v len all clear full = record {
-  clear = λ k lt. clear k (omega arith);
-  ended = λ more. absurd (omega arith);
-  open_ = λ none. (all, full);
-}

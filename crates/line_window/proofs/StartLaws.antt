@@ -2,7 +2,7 @@
 use Rattle.std.proofs.Common.{◌≡◌, ℕ, zero, suc, ◌+◌, ◌-◌, ◌<◌, ◌≤◌, min, Bool, true, false, ◌&&◌, ◌||◌, ◌==◌, List, [], ◌∷◌, ◌++◌, map, length, take, drop, refl, sym, ap, ◌∙◌, subst, arith, inl, inr, length-take, length-drop}
 use Rattle.std.proofs.lemmas.List.{drop-take, drop-drop, take-take, map-append}
 use Rattle.std.proofs.lemmas.Slice.Eq.{bytes_eq-Decides}
-use Rattle.std.proofs.lemmas.Bool.{cases_lt, lt-ltb, le-ltb, lt-leb, le-leb, ne_eqb, eq-eqb, and_left, and_from, or_right, false≢true}
+use Rattle.std.proofs.lemmas.Bool.{cases_lt, lt-ltb, le-ltb, lt-leb, le-leb, ne_eqb, and_left, and_from, or_right, false≢true}
 use Rattle.std.specs.Prelude.{bytes_eq, nat_lt, nat_le, if◌then◌else◌}
 use Rattle.line_window.specs.Starts.{ends_at, is_start, starts, starts_in, AdjacentStartsAppend, NearBytesTell}
 use Rattle.line_window.specs.Cuts.{cut_at, cuts, AdjacentCutsAppend}
@@ -108,11 +108,6 @@ and_none : (b : Bool) → (b && false) ≡ false
 and_none true = refl
 and_none false = refl
 
--- a line starts at the object's first byte
-pub first_start : (d object : List ℕ) (p : ℕ) → p ≡ 0 → p < length object → is_start d object p ≡ true
-first_start d object p front within =
-    and_from _ _ (lt-ltb p (length object) within) (ap (λ b. b || ends_at d object p) (eq-eqb p 0 front))
-
 -- a line starts behind the delimiter
 pub start_behind : (d object : List ℕ) (p : ℕ) → length d ≤ p → p < length object → StandsAt d object (p - length d) → is_start d object p ≡ true
 start_behind d object p fits within stands =
@@ -194,9 +189,3 @@ first_cut d object p stop is within =
     ∙ ap (λ b. if b then p ∷ starts d object (suc p) (stop - (p + 1)) else starts d object (suc p) (stop - (p + 1))) is
     ∙ ap (λ r. p ∷ starts d object r (stop - (p + 1))) (sym on) in
     ap (map (cut_at d object)) first
-
--- nothing is left behind the range
-pub no_cuts : (d object : List ℕ) (p stop : ℕ) → stop ≤ p → cuts d object p (stop - p) ≡ []
-no_cuts d object p stop past =
-    let none : stop - p ≡ 0 = omega arith in
-    ap (cuts d object p) none

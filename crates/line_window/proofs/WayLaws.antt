@@ -1,13 +1,12 @@
 -- The loops of a window: the way to the next start, to the end of a line, and to as many bytes as are wanted.
-use Rattle.std.proofs.Common.{◌≡◌, ℕ, ◌+◌, ◌-◌, ◌<◌, ◌≤◌, true, false, List, [], ◌++◌, length, drop, take, Result, Ok, Err, refl, sym, ap, ◌∙◌, subst, inl, inr, arith, length-append}
-use Rattle.std.proofs.lemmas.List.{append_assoc, append-nil, drop-append-le, take-append-le, take_all}
+use Rattle.std.proofs.Common.{◌≡◌, ℕ, ◌+◌, ◌-◌, ◌<◌, ◌≤◌, true, false, List, ◌++◌, length, drop, take, Result, Ok, Err, refl, ap, ◌∙◌, subst, inl, inr, arith, length-append}
+use Rattle.std.proofs.lemmas.List.{append_assoc, drop-append-le, take-append-le, take_all}
 use Rattle.std.proofs.lemmas.Bool.{cases_lt}
 use Rattle.std.specs.Prelude.{IsErr}
 use Rattle.select_ports.specs.declared.outcome.Failed.{Failed}
 use Rattle.select_ports.specs.Stored.{Opened}
-use Rattle.line_window.specs.Cuts.{cuts}
 use Rattle.line_window.specs.Delimiters.{StandsAt, HasNone}
-use Rattle.line_window.specs.Sliding.{View, ahead, kept_from, left, Tells, Holds, IsSound, SameRules, Took}
+use Rattle.line_window.specs.Sliding.{View, ahead, kept_from, Tells, Holds, IsSound, SameRules, Took}
 use Rattle.line_window.specs.Steps.{Grows, IsNear, Measuring, Measures}
 use Rattle.line_window.specs.declared.window.Body.{Body}
 use Rattle.line_window.proofs.DelimiterLaws.{width, stands_of_front}
@@ -44,13 +43,6 @@ more_rules a b c first second = record {
   delimiter = second.delimiter ∙ first.delimiter;
 }
 
--- reading on leaves the cuts that were left
-pub grown_left : (object : List ℕ) (old new : View) → Grows old new → left object new ≡ left object old
-grown_left object old new grows =
-    ap (λ d. cuts d object new.place (new.stop - new.place)) grows.rules.delimiter
-    ∙ ap (λ q. cuts old.delimiter object q (new.stop - q)) grows.place
-    ∙ ap (λ n. cuts old.delimiter object old.place (n - old.place)) grows.rules.stop
-
 pub grows_more : (a b c : View) → Grows a b → Grows b c → Grows a c
 grows_more a b c first second = record {
   sound = second.sound;
@@ -59,16 +51,6 @@ grows_more a b c first second = record {
   piece = first.piece ++ second.piece;
   kept = second.kept ∙ ap (λ l. l ++ second.piece) first.kept ∙ append_assoc a.kept first.piece second.piece;
   upto = omega (arith, length-append first.piece second.piece, first.upto, second.upto);
-}
-
-pub grows_none : (v : View) → IsSound v → Grows v v
-grows_none v sound = record {
-  sound = sound;
-  rules = same_rules v;
-  place = refl;
-  piece = [];
-  kept = sym (append-nil v.kept);
-  upto = omega arith;
 }
 
 pub near_grown : (old new : View) → Grows old new → IsNear old → IsNear new
@@ -104,17 +86,6 @@ clear_grown old new n sound read grows all clear k lt stands =
     clear k (omega arith)
     (subst (λ l. StandsAt old.delimiter l k) front
     (stands_of_front old.delimiter (ahead old ++ grows.piece) (length (ahead old)) k (omega arith) whole))
-
-pub measuring_none : (opened : Opened) (v : View) (before : ℕ) → IsSound v → v.failed ≡ false → Measuring opened v v 0 before before
-measuring_none opened v before sound works = record {
-  grows = grows_none v sound;
-  taken = took_none _ before (omega arith);
-  near = omega arith;
-  failed = works;
-  within = omega arith;
-  clear = λ k lt. absurd (omega arith);
-  told = λ object tells h. h;
-}
 
 pub measuring_more : (opened : Opened) (old mid new : View) (scanned n before between after : ℕ) → Measuring opened old mid scanned before between
     → IsNear mid → n ≡ length (ahead mid) + 1 - length mid.delimiter → length (ahead mid) < mid.longest + length mid.delimiter
