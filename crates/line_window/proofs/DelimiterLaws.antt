@@ -2,6 +2,7 @@
 use Rattle.std.proofs.Common.{◌≡◌, ℕ, ◌+◌, ◌-◌, ◌<◌, ◌≤◌, true, ◌==◌, List, [], ◌∷◌, length, take, drop, get_or, Option, None, Some, MatchOption, sym, ap, ◌∙◌, subst, inl, inr, arith, length-take, length-drop}
 use Rattle.std.proofs.lemmas.List.{drop-take, drop-drop, take-take, take_rest, drop_more, get_or-take, get_or-drop}
 use Rattle.std.proofs.lemmas.Bool.{cases_lt, eq-eqb}
+use Rattle.byte_masks.specs.Walks.{IsFirst}
 use Rattle.line_window.specs.Delimiters.{is_delimiter, StandsAt, HasNone, IsFirstAt, LacksByte, IsFirstByteAt}
 
 -- how long a delimiter is
@@ -175,3 +176,20 @@ pub next_none : (d xs shown : List ℕ) (s : ℕ) → shown ≡ xs → s ≤ len
 next_none d xs shown s is within clear none =
     none_behind d xs s within clear
     (subst (λ l. HasNone d l (length l)) (ap (λ l. take (length l - s) (drop s l)) is ∙ take_rest xs s) none)
+
+-- the first place from index s on, in what is left behind the first s bytes
+pub walk_found : (byte : ℕ) (xs : List ℕ) (s at : ℕ) → IsFirst byte xs s at → IsFirstAt (byte ∷ []) (drop s xs) (at - s)
+walk_found byte xs s at first =
+    let low = first.low in
+    let on : at ≡ s + (at - s) = omega arith in
+    record {
+      here = stands_of_behind (byte ∷ []) xs s (at - s) (subst (StandsAt (byte ∷ []) xs) on (stands_one byte xs at first.high first.here));
+      before = λ k lt stands.
+          first.before (s + k) (omega arith) (omega arith) (one_stands byte xs (s + k) (stands_behind (byte ∷ []) xs s k stands));
+    }
+
+-- a delimiter of one byte
+pub one_byte : (d : List ℕ) (byte : ℕ) → length d ≡ 1 → byte ≡ get_or d 0 0 → byte ∷ [] ≡ d
+one_byte [] byte one is = absurd (omega arith)
+one_byte (first ∷ []) byte one is = ap (λ b. b ∷ []) is
+one_byte (first ∷ second ∷ more) byte one is = absurd (omega arith)

@@ -1,11 +1,14 @@
 -- What a window shows of its fields: where its kept bytes stand in the buffer.
-use Rattle.std.proofs.Common.{◌≡◌, ℕ, ◌+◌, ◌-◌, ◌≤◌, min, List, [], ◌++◌, length, take, drop, sym, ap, ◌∙◌, inl, inr, arith, length-drop, length-take}
+use Rattle.std.proofs.Common.{◌≡◌, ℕ, ◌+◌, ◌-◌, ◌≤◌, min, List, [], ◌∷◌, ◌++◌, length, take, drop, refl, sym, ap, ◌∙◌, subst, inl, inr, arith, length-drop, length-take}
 use Rattle.std.proofs.lemmas.List.{drop-take, drop-drop, take-take, nil_from_length}
 use Rattle.std.proofs.lemmas.Bool.{cases_lt}
 use Rattle.line_window.specs.declared.window.Window.TheInside.{Inside}
 use Rattle.line_window.specs.Spelled.{spelled}
 use Rattle.line_window.specs.Buffered.{view_of, IsBuffered}
 use Rattle.line_window.specs.Sliding.{kept_from, ahead}
+use Rattle.byte_masks.specs.Walks.{IsFirst}
+use Rattle.line_window.specs.Delimiters.{IsFirstAt}
+use Rattle.line_window.proofs.DelimiterLaws.{walk_found}
 use Rattle.line_window.proofs.KeptLaws.{take-add}
 
 -- the kept bytes after some of them were passed
@@ -123,3 +126,15 @@ kept_grows xs ys zs front s e n f u stays same at until =
     ∙ take-add (e - s) n (drop front zs)
     ∙ ap (λ l. l ++ take n (drop (e - s) (drop front zs))) (kept_stays ys zs front (e - s) stays ∙ same)
     ∙ ap (λ l. take (e - s) (drop s xs) ++ take n l) (drop-drop (e - s) front zs)
+
+-- what the walk gives, as an index into what is ahead
+pub end_ahead : (w : Inside) (byte : ℕ) (at : ℕ) → IsBuffered w → w.from ≤ w.end → byte ∷ [] ≡ spelled w.delimiter
+    → IsFirst byte (take w.end w.buffer.items) w.from at → IsFirstAt (spelled w.delimiter) (ahead (view_of w)) (at - w.from)
+end_ahead w byte at is read one first =
+    let xs = w.buffer.items in
+    let m : w.from ≡ min w.from w.end = omega arith in
+    let split : w.end ≡ w.from + (w.end - w.from) = omega arith in
+    let rest : drop w.from (take w.end xs) ≡ ahead (view_of w) =
+    ap (λ n. drop w.from (take n xs)) split ∙ drop-take w.from (w.end - w.from) xs ∙ ahead_slice w xs w.from is refl m in
+    subst (λ d. IsFirstAt d (ahead (view_of w)) (at - w.from)) one
+    (subst (λ l. IsFirstAt (byte ∷ []) l (at - w.from)) rest (walk_found byte (take w.end xs) w.from at first))

@@ -1,12 +1,14 @@
 //! A window that slides over a stored object. It keeps its bytes from the delimiter before its place on, so that whether a line starts
 //! there is told by the bytes alone; in a buffer with room for a line of the record limit and two pieces. Indices into the buffer are
 //! what a line costs: places of the object are computed for an answer and at a read.
-ghost use Rattle.std.specs.Prelude.{◌+◌, ◌<◌, ◌≤◌};
+ghost use Rattle.std.specs.Prelude.{◌≡◌, ℕ, ◌+◌, ◌<◌, ◌≤◌, List, length};
+ghost use Rattle.byte_masks.specs.Walks.{StandsAt};
 
 use crate::Line;
 use crate::buffer::{PIECE, make_room, read_piece};
 use crate::delimiter::{Delimiter, delimiter_of};
 use crate::line::content;
+use byte_masks::Places;
 use select_ports::{Failed, Limits, Range, Store};
 use std::alloc::{AllocError, Global};
 use std::marker::Model;
@@ -24,6 +26,9 @@ pub struct Window {
     bound: usize,
     // The index behind the last byte that was read.
     end: usize,
+    // A walk over the delimiter's first byte, and the index from which on it gives each one that was read.
+    ends: Places,
+    walked: usize,
     delimiter: Delimiter,
     // The place of the buffer's first byte in the object.
     base: u64,
@@ -92,6 +97,8 @@ impl Window {
             from: 0,
             bound: 0,
             end: 0,
+            ends: Places::new(delimiter[0]),
+            walked: 0,
             delimiter: delimiter_of(delimiter),
             base: 0,
             size: 0,
@@ -112,6 +119,8 @@ impl Window {
         self.base = range.first - self.from as u64;
         self.bound = 0;
         self.end = 0;
+        self.ends.restart(0);
+        self.walked = 0;
         self.size = size;
         self.stop = range.last + 1;
         self.failed = false;
@@ -195,9 +204,10 @@ impl Window {
 
     // The length of the next line's body, where the kept bytes alone show the line.
     #[inline(always)]
-    fn sight(&self) -> Option<usize>
-        ensures sound { IsSound self.now }
-        ensures seen { IfSome result (λ len. IsSeen self.now (record { len = len; behind = length self.now.delimiter })) }
+    fn sight(&mut self) -> Option<usize>
+        ensures same { self.new ≡ self.old }
+        ensures sound { IsSound self.old }
+        ensures seen { IfSome result (λ len. IsSeen self.old (record { len = len; behind = length self.old.delimiter })) }
     {
         if self.from >= self.bound {
             return None;
@@ -205,7 +215,27 @@ impl Window {
         if !self.is_at_start() {
             return None;
         }
-        self.next_delimiter(0)
+        match self.delimiter {
+            Delimiter::One(_) => self.next_end(),
+            Delimiter::Two(_, _) => self.next_delimiter(0),
+        }
+    }
+
+    // Where the next delimiter of one byte that was read stands in the bytes ahead, by the walk.
+    #[inline(always)]
+    fn next_end(&mut self) -> Option<usize>
+        requires near { IsNear self.old }
+        requires one { length self.old.delimiter ≡ 1 }
+        ensures same { self.new ≡ self.old }
+        ensures first { IfSome result (IsFirstAt self.old.delimiter (ahead self.old)) }
+    {
+        walk_to(&mut self.ends, self.walked, self.from);
+        self.walked = self.from;
+        let Some(at) = self.ends.next(&self.buffer[..self.end]) else {
+            return None;
+        };
+        self.walked = at + 1;
+        Some(at - self.from)
     }
 
     // Whether the kept bytes show that a line starts at the window's place.
@@ -403,6 +433,8 @@ impl Window {
         self.from = front + lead;
         self.end = end;
         self.bound = 0;
+        self.ends.restart(0);
+        self.walked = 0;
         match read_piece(store, self.base + end as u64, self.size, buffer, end) {
             Ok(read) => {
                 self.end = end + read;
@@ -440,6 +472,17 @@ impl Window {
             bytes,
             whole,
         }
+    }
+}
+
+// Begins the walk anew at an index, unless it stands there.
+#[inline(always)]
+fn walk_to(walk: &mut Places, walked: usize, at: usize)
+    ensures byte { walk.new.byte ≡ walk.old.byte }
+    ensures stands { (bytes : List ℕ) → at ≤ length bytes → StandsAt walk.old bytes walked → StandsAt walk.new bytes at }
+{
+    if walked != at {
+        walk.restart(at);
     }
 }
 
