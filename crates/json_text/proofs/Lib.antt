@@ -1,2 +1,7 @@
 pub mod Classes
 pub mod Strings
+pub mod Numbers
+pub mod Follows
+pub mod Steps
+pub mod Ends
+pub mod Verdicts

@@ -243,13 +243,13 @@ abbrev pub opened : Bool → Verdict → ℕ → Verdict
 opened true v at = v
 opened false v at = too_deep at
 
+abbrev pub moved : Move → List Bool → ℕ → (Mode → List Bool → Verdict) → Verdict
+moved (To m) nest at f = f m nest
+moved OpenArray nest at f = opened (nat_lt (length nest) levels) (f ElementDue (true ∷ nest)) at
+moved OpenObject nest at f = opened (nat_lt (length nest) levels) (f FirstNameDue (false ∷ nest)) at
+moved Close nest at f = f Ended (behind_close nest)
+moved Refuse nest at f = unfit at
+
 unfoldable pub verdict : List ℕ → Mode → List Bool → ℕ → Verdict
 verdict [] m nest at = if may_end m nest then accepted else unfit at
-verdict (c ∷ cs) m nest at =
-    elim (step m (around_of nest) c) [
-      | To n ↦ verdict cs n nest (suc at)
-      | OpenArray ↦ opened (nat_lt (length nest) levels) (verdict cs ElementDue (true ∷ nest) (suc at)) at
-      | OpenObject ↦ opened (nat_lt (length nest) levels) (verdict cs FirstNameDue (false ∷ nest) (suc at)) at
-      | Close ↦ verdict cs Ended (behind_close nest) (suc at)
-      | Refuse ↦ unfit at
-    ]
+verdict (c ∷ cs) m nest at = moved (step m (around_of nest) c) nest at (λ n ns. verdict cs n ns (suc at))

@@ -27,9 +27,8 @@ pub record IsParsingFault (bytes : List ℕ) (at : ℕ) : Type 0 where
   pub longest : (limit : ℕ) → at < length bytes → BeginsText limit (take (at + 1) bytes) → ⊥
   pub wrong : (limit : ℕ) → IsText limit bytes → ⊥
 
--- a bracket at `at` opens a level past the limit, in the front of a JSON text
+-- the byte at `at` opens a level past the limit, in the front of a JSON text that is nested deeper
 pub record IsTooDeep (bytes : List ℕ) (at : ℕ) : Type 0 where
-  pub bracket : (slice_index bytes at ≡ 91) ⊎ (slice_index bytes at ≡ 123)
   pub begun : BeginsText levels (take at bytes)
   pub deeper : BeginsText (levels + 1) (take (at + 1) bytes)
   pub past : BeginsText levels (take (at + 1) bytes) → ⊥
