@@ -66,10 +66,24 @@ pub class_nonzero : (c : ℕ) → is_nonzero_digit c ≡ true → class c ≡ No
 class_nonzero c h =
     let low : 49 ≤ c = (nonzero_range c h).0 in
     let high : c ≤ 57 = (nonzero_range c h).1 in
-    rw (above_not c 32 (omega arith), above_not c 9 (omega arith), above_not c 10 (omega arith), above_not c 13 (omega arith),
-    above_not c 34 (omega arith), below_not c 91 (omega arith), below_not c 93 (omega arith), below_not c 123 (omega arith),
-    below_not c 125 (omega arith), above_not c 44 (omega arith), below_not c 58 (omega arith), above_not c 45 (omega arith),
-    above_not c 43 (omega arith), above_not c 46 (omega arith), above_not c 48 (omega arith), h) refl
+    rw (
+      above_not c 32 (omega arith),
+      above_not c 9 (omega arith),
+      above_not c 10 (omega arith),
+      above_not c 13 (omega arith),
+      above_not c 34 (omega arith),
+      below_not c 91 (omega arith),
+      below_not c 93 (omega arith),
+      below_not c 123 (omega arith),
+      below_not c 125 (omega arith),
+      above_not c 44 (omega arith),
+      below_not c 58 (omega arith),
+      above_not c 45 (omega arith),
+      above_not c 43 (omega arith),
+      above_not c 46 (omega arith),
+      above_not c 48 (omega arith),
+      h,
+    ) refl
 
 either : (x y : Bool) → (x || y) ≡ true → (x ≡ true) ⊎ (y ≡ true)
 either true y h = inl refl

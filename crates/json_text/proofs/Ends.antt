@@ -206,7 +206,6 @@ number_way P AfterE w = record { bytes = 48 ∷ w.bytes; leads = record { rest =
 number_way P AfterSign w = record { bytes = 48 ∷ w.bytes; leads = record { rest = w.bytes; valid = digit_first refl (digits_none refl); behind = w.leads } }
 number_way P InExp w = record { bytes = w.bytes; leads = record { rest = w.bytes; valid = digits_none refl; behind = w.leads } }
 
-
 -- each state leads to some end
 pub way : (limit : ℕ) (m : Mode) (nest : List Bool) → Way (Follows limit m nest)
 way limit ValueDue nest = value_way limit nest

@@ -5,3 +5,4 @@ pub mod Follows
 pub mod Steps
 pub mod Ends
 pub mod Verdicts
+pub mod Nests

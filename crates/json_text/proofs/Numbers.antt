@@ -121,31 +121,40 @@ module _ {P : List ℕ → Type 0} {c : ℕ} {ts : List ℕ} where
   digits_split : (digits middle : List ℕ) → AreDigits digits → c ∷ ts ≡ digits ++ middle → P middle → ((is_digit c ≡ true) × DigitsThen P ts) ⊎ P (c ∷ ts)
   digits_split [] middle v e x = inr (subst P (sym e) x)
   digits_split (d ∷ ds) middle v e x =
-    let is : d ≡ c = cc in
-    let same : ts ≡ ds ++ middle = cc in
-    inl (subst (λ y. is_digit y ≡ true) is v.0, record { digits = ds; middle = middle; valid = v.1; spelled = same; behind = x })
+      let is : d ≡ c = cc in
+      let same : ts ≡ ds ++ middle = cc in
+      inl (subst (λ y. is_digit y ≡ true) is v.0, record { digits = ds; middle = middle; valid = v.1; spelled = same; behind = x })
 
   pub digits_back : DigitsThen P (c ∷ ts) → ((is_digit c ≡ true) × DigitsThen P ts) ⊎ P (c ∷ ts)
   digits_back x = digits_split x.digits x.middle x.valid x.spelled x.behind
 
   pub digit_back : DigitThen P (c ∷ ts) → (is_digit c ≡ true) × DigitsThen P ts
   digit_back x =
-    let is : x.digit ≡ c = cc (x.spelled) in
-    let same : x.middle ≡ ts = cc (x.spelled) in
-    (subst (λ y. is_digit y ≡ true) is x.valid, subst (DigitsThen P) same x.behind)
+      let is : x.digit ≡ c = cc (x.spelled) in
+      let same : x.middle ≡ ts = cc (x.spelled) in
+      (subst (λ y. is_digit y ≡ true) is x.valid, subst (DigitsThen P) same x.behind)
 
 module _ {rest : List ℕ} {c : ℕ} {ts : List ℕ} where
   exp_split : (e : Exp) → IsExp e → c ∷ ts ≡ print_exp e rest → ((is_e c ≡ true) × BehindE rest ts) ⊎ (c ∷ ts ≡ rest)
   exp_split no_exp v h = inr h
   exp_split (unsigned_exp e d ds) v h =
-    let is : e ≡ c = cc in
-    let same : ts ≡ d ∷ (ds ++ rest) = cc in
-    inl (subst (λ y. is_e y ≡ true) is v.0, inr (record { digit = d; middle = ds ++ rest; valid = v.1; spelled = same; behind = record { digits = ds; middle = rest; valid = v.2; spelled = refl; behind = refl } }))
+      let is : e ≡ c = cc in
+      let same : ts ≡ d ∷ (ds ++ rest) = cc in
+      inl (subst (λ y. is_e y ≡ true) is v.0, inr (record { digit = d; middle = ds ++ rest; valid = v.1; spelled = same; behind = record { digits = ds; middle = rest; valid = v.2; spelled = refl; behind = refl } }))
   exp_split (signed_exp e s d ds) v h =
-    let is : e ≡ c = cc in
-    let same : ts ≡ s ∷ d ∷ (ds ++ rest) = cc in
-    inl (subst (λ y. is_e y ≡ true) is v.0, inl (record { sign = s; middle = d ∷ (ds ++ rest); valid = v.1; spelled = same; behind =
-      record { digit = d; middle = ds ++ rest; valid = v.2; spelled = refl; behind = record { digits = ds; middle = rest; valid = v.3; spelled = refl; behind = refl } } }))
+      let is : e ≡ c = cc in
+      let same : ts ≡ s ∷ d ∷ (ds ++ rest) = cc in
+      inl (
+        subst (λ y. is_e y ≡ true) is v.0,
+        inl (record {
+          sign = s;
+          middle = d ∷ (ds ++ rest);
+          valid = v.1;
+          spelled = same;
+          behind =
+              record { digit = d; middle = ds ++ rest; valid = v.2; spelled = refl; behind = record { digits = ds; middle = rest; valid = v.3; spelled = refl; behind = refl } };
+        }),
+      )
 
   pub exp_back : ExpThen rest (c ∷ ts) → ((is_e c ≡ true) × BehindE rest ts) ⊎ (c ∷ ts ≡ rest)
   exp_back x = exp_split x.exp x.valid x.spelled
@@ -153,45 +162,47 @@ module _ {rest : List ℕ} {c : ℕ} {ts : List ℕ} where
   frac_split : (f : Frac) (middle : List ℕ) → IsFrac f → c ∷ ts ≡ print_frac f middle → ExpThen rest middle → ((c ≡ 46) × DigitThen (ExpThen rest) ts) ⊎ ExpThen rest (c ∷ ts)
   frac_split no_frac middle v h x = inr (subst (ExpThen rest) (sym h) x)
   frac_split (frac d ds) middle v h x =
-    let is : c ≡ 46 = cc in
-    let same : ts ≡ d ∷ (ds ++ middle) = cc in
-    inl (is, record { digit = d; middle = ds ++ middle; valid = v.0; spelled = same; behind = record { digits = ds; middle = middle; valid = v.1; spelled = refl; behind = x } })
+      let is : c ≡ 46 = cc in
+      let same : ts ≡ d ∷ (ds ++ middle) = cc in
+      inl (is, record { digit = d; middle = ds ++ middle; valid = v.0; spelled = same; behind = record { digits = ds; middle = middle; valid = v.1; spelled = refl; behind = x } })
 
   pub frac_back : FracThen rest (c ∷ ts) → ((c ≡ 46) × DigitThen (ExpThen rest) ts) ⊎ ExpThen rest (c ∷ ts)
   frac_back x = frac_split x.part x.middle x.valid x.spelled x.behind
 
   int_split : (i : Int) (middle : List ℕ) → IsInt i → c ∷ ts ≡ print_int i middle → FracThen rest middle → ((c ≡ 48) × FracThen rest ts) ⊎ ((is_nonzero_digit c ≡ true) × DigitsThen (FracThen rest) ts)
   int_split zero_int middle v h x =
-    let is : c ≡ 48 = cc in
-    let same : middle ≡ ts = cc in
-    inl (is, subst (FracThen rest) same x)
+      let is : c ≡ 48 = cc in
+      let same : middle ≡ ts = cc in
+      inl (is, subst (FracThen rest) same x)
   int_split (nonzero_int d ds) middle v h x =
-    let is : d ≡ c = cc in
-    let same : ts ≡ ds ++ middle = cc in
-    inr (subst (λ y. is_nonzero_digit y ≡ true) is v.0, record { digits = ds; middle = middle; valid = v.1; spelled = same; behind = x })
+      let is : d ≡ c = cc in
+      let same : ts ≡ ds ++ middle = cc in
+      inr (subst (λ y. is_nonzero_digit y ≡ true) is v.0, record { digits = ds; middle = middle; valid = v.1; spelled = same; behind = x })
 
   pub int_back : IntThen rest (c ∷ ts) → ((c ≡ 48) × FracThen rest ts) ⊎ ((is_nonzero_digit c ≡ true) × DigitsThen (FracThen rest) ts)
   int_back x = int_split x.int x.middle x.valid x.spelled x.behind
 
   pub sign_back : SignThen rest (c ∷ ts) → (is_sign c ≡ true) × DigitThen (Ends rest) ts
   sign_back x =
-    let is : x.sign ≡ c = cc (x.spelled) in
-    let same : x.middle ≡ ts = cc (x.spelled) in
-    (subst (λ y. is_sign y ≡ true) is x.valid, subst (DigitThen (Ends rest)) same x.behind)
+      let is : x.sign ≡ c = cc (x.spelled) in
+      let same : x.middle ≡ ts = cc (x.spelled) in
+      (subst (λ y. is_sign y ≡ true) is x.valid, subst (DigitThen (Ends rest)) same x.behind)
 
 -- ---- numbers of the grammar
 
 pub unsigned_number : {rest ts : List ℕ} (x : IntThen rest ts) → (n : Number) × IsNumber n × (ts ≡ print_number n rest)
-unsigned_number {rest} {ts} x =
-    (unsigned x.int x.behind.part x.behind.behind.exp,
-    (x.valid, x.behind.valid, x.behind.behind.valid),
-    x.spelled ∙ ap (print_int x.int) (x.behind.spelled ∙ ap (print_frac x.behind.part) x.behind.behind.spelled))
+unsigned_number {rest} {ts} x = (
+  unsigned x.int x.behind.part x.behind.behind.exp,
+  (x.valid, x.behind.valid, x.behind.behind.valid),
+  x.spelled ∙ ap (print_int x.int) (x.behind.spelled ∙ ap (print_frac x.behind.part) x.behind.behind.spelled),
+)
 
 pub negative_number : {rest ts : List ℕ} (c : ℕ) → c ≡ 45 → (x : IntThen rest ts) → (n : Number) × IsNumber n × (c ∷ ts ≡ print_number n rest)
-negative_number {rest} {ts} c h x =
-    (negative x.int x.behind.part x.behind.behind.exp,
-    (x.valid, x.behind.valid, x.behind.behind.valid),
-    cons_is h (x.spelled ∙ ap (print_int x.int) (x.behind.spelled ∙ ap (print_frac x.behind.part) x.behind.behind.spelled)))
+negative_number {rest} {ts} c h x = (
+  negative x.int x.behind.part x.behind.behind.exp,
+  (x.valid, x.behind.valid, x.behind.behind.valid),
+  cons_is h (x.spelled ∙ ap (print_int x.int) (x.behind.spelled ∙ ap (print_frac x.behind.part) x.behind.behind.spelled)),
+)
 
 pub int_parts : (i : Int) (f : Frac) (e : Exp) (rest : List ℕ) → IsInt i → IsFrac f → IsExp e → IntThen rest (print_int i (print_frac f (print_exp e rest)))
 int_parts i f e rest vi vf ve = record {

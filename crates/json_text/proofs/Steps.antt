@@ -67,7 +67,7 @@ module _ (limit : ℕ) (c : ℕ) (ts : List ℕ) where
     blank = tt;
     valid = ((x.blank, x.valid, x.behind.blank, (x.behind.behind.blank, x.behind.behind.valid, x.behind.behind.behind.blank)), x.behind.behind.behind.valid);
     spelled = cons_is m (x.spelled ∙ ap (λ l. x.blanks ++ 34 ∷ (x.raw ++ 34 ∷ l)) (x.behind.spelled ∙ ap (λ l. x.behind.blanks ++ 58 ∷ l)
-      (x.behind.behind.spelled ∙ ap (λ l. x.behind.behind.blanks ++ print x.behind.behind.value l) x.behind.behind.behind.spelled)));
+        (x.behind.behind.spelled ∙ ap (λ l. x.behind.behind.blanks ++ print x.behind.behind.value l) x.behind.behind.behind.spelled)));
     behind = x.behind.behind.behind.behind;
   }
   after_forth (false ∷ nest) ObjectEnd m x = record { blanks = []; members = no_members; rest = ts; blank = tt; valid = tt; spelled = cons_is m refl; behind = x }
@@ -96,7 +96,7 @@ module _ (limit : ℕ) (c : ℕ) (ts : List ℕ) where
     blank = tt;
     valid = (h, (x.blank, x.valid, x.behind.blank, (x.behind.behind.blank, x.behind.behind.valid, x.behind.behind.behind.blank)), x.behind.behind.behind.valid);
     spelled = cons_is m (x.spelled ∙ ap (λ l. x.blanks ++ 34 ∷ (x.raw ++ 34 ∷ l)) (x.behind.spelled ∙ ap (λ l. x.behind.blanks ++ 58 ∷ l)
-      (x.behind.behind.spelled ∙ ap (λ l. x.behind.behind.blanks ++ print x.behind.behind.value l) x.behind.behind.behind.spelled)));
+        (x.behind.behind.spelled ∙ ap (λ l. x.behind.behind.blanks ++ print x.behind.behind.value l) x.behind.behind.behind.spelled)));
     behind = x.behind.behind.behind.behind;
   }
 
@@ -180,13 +180,13 @@ module _ (limit : ℕ) (c : ℕ) (ts : List ℕ) where
 
   letter_more : (d : ℕ) (w : Letters) (nest : List Bool) → FollowsMove limit nest ts (letter_move (c == d) (InWord w)) → WordThen (d ∷ letters w) (After limit nest) (c ∷ ts)
   letter_more d w nest x =
-    let y = letter_forth (c == d) (InWord w) nest x in
-    record { rest = y.1.rest; spelled = cons_is (eq_is c d y.0) y.1.spelled; behind = y.1.behind }
+      let y = letter_forth (c == d) (InWord w) nest x in
+      record { rest = y.1.rest; spelled = cons_is (eq_is c d y.0) y.1.spelled; behind = y.1.behind }
 
   letter_last : (d : ℕ) (nest : List Bool) → FollowsMove limit nest ts (letter_move (c == d) Ended) → WordThen (d ∷ []) (After limit nest) (c ∷ ts)
   letter_last d nest x =
-    let y = letter_forth (c == d) Ended nest x in
-    record { rest = ts; spelled = cons_is (eq_is c d y.0) refl; behind = y.1 }
+      let y = letter_forth (c == d) Ended nest x in
+      record { rest = ts; spelled = cons_is (eq_is c d y.0) refl; behind = y.1 }
 
   word_forth : (w : Letters) (nest : List Bool) → FollowsMove limit nest ts (word_move w c) → WordThen (letters w) (After limit nest) (c ∷ ts)
   word_forth Ull nest x = letter_more 117 Ll nest x
@@ -218,8 +218,8 @@ module _ (limit : ℕ) (c : ℕ) (ts : List ℕ) where
 
   string_close : {P : List ℕ → Type 0} (p : Part) → closes p c ≡ true → P ts → StringThen p P (c ∷ ts)
   string_close p h x =
-    let here = closes_here p h in
-    record { raw = []; rest = ts; valid = here.0; spelled = cons_is here.1 refl; behind = x }
+      let here = closes_here p h in
+      record { raw = []; rest = ts; valid = here.0; spelled = cons_is here.1 refl; behind = x }
 
   string_more : {P : List ℕ → Type 0} (p q : Part) → part_next p c ≡ Some q → StringThen q P ts → StringThen p P (c ∷ ts)
   string_more p q h x = record {
@@ -264,13 +264,13 @@ module _ (limit : ℕ) (c : ℕ) (ts : List ℕ) where
 
   blank_head : (d : ℕ) (us : List ℕ) → c ∷ ts ≡ d ∷ us → is_blank d ≡ true → class c ≡ Blank
   blank_head d us e h =
-    let is : d ≡ c = cc in
-    class_blank c (subst (λ y. is_blank y ≡ true) is h)
+      let is : d ≡ c = cc in
+      class_blank c (subst (λ y. is_blank y ≡ true) is h)
 
   head_is : (d : ℕ) (us : List ℕ) → c ∷ ts ≡ d ∷ us → class c ≡ class d
   head_is d us e =
-    let is : c ≡ d = cc in
-    ap class is
+      let is : c ≡ d = cc in
+      ap class is
 
   tail_is : (d : ℕ) (us : List ℕ) → c ∷ ts ≡ d ∷ us → ts ≡ us
   tail_is d us e = cc
@@ -279,30 +279,56 @@ module _ (limit : ℕ) (c : ℕ) (ts : List ℕ) where
   after_at nest k e x = subst (λ y. FollowsMove limit nest ts (after_move (around_of nest) y)) (sym e) x
 
   after_array : (nest : List Bool) (blanks : List ℕ) (es : Elements) (rest : List ℕ) → AreBlanks blanks → AreElements limit (suc (length nest)) es
-    → c ∷ ts ≡ blanks ++ print_elements es rest → After limit nest rest → FollowsMove limit (true ∷ nest) ts (after_move (around_of (true ∷ nest)) (class c))
+      → c ∷ ts ≡ blanks ++ print_elements es rest → After limit nest rest → FollowsMove limit (true ∷ nest) ts (after_move (around_of (true ∷ nest)) (class c))
   unfolding print IsValue
   after_array nest (d ∷ ds) es rest b v e x =
-    after_at (true ∷ nest) Blank (blank_head d _ e b.0) (record { blanks = ds; elements = es; rest = rest; blank = b.1; valid = v; spelled = tail_is d _ e; behind = x })
+      after_at (true ∷ nest) Blank (blank_head d _ e b.0) (record { blanks = ds; elements = es; rest = rest; blank = b.1; valid = v; spelled = tail_is d _ e; behind = x })
   after_array nest [] no_elements rest b v e x =
-    after_at (true ∷ nest) ArrayEnd (head_is 93 rest e) (subst (After limit nest) (sym (tail_is 93 rest e)) x)
+      after_at (true ∷ nest) ArrayEnd (head_is 93 rest e) (subst (After limit nest) (sym (tail_is 93 rest e)) x)
   after_array nest [] (more_elements (element before w behind) es) rest b v e x =
-    after_at (true ∷ nest) Comma (head_is 44 _ e)
-    (record { blanks = before; value = w; rest = behind ++ print_elements es rest; blank = v.0.0; valid = v.0.1; spelled = tail_is 44 _ e;
-      behind = record { blanks = behind; elements = es; rest = rest; blank = v.0.2; valid = v.1; spelled = refl; behind = x } })
+      after_at (true ∷ nest) Comma (head_is 44 _ e)
+      (record {
+        blanks = before;
+        value = w;
+        rest = behind ++ print_elements es rest;
+        blank = v.0.0;
+        valid = v.0.1;
+        spelled = tail_is 44 _ e;
+        behind = record { blanks = behind; elements = es; rest = rest; blank = v.0.2; valid = v.1; spelled = refl; behind = x };
+      })
 
   after_object : (nest : List Bool) (blanks : List ℕ) (ms : Members) (rest : List ℕ) → AreBlanks blanks → AreMembers limit (suc (length nest)) ms
-    → c ∷ ts ≡ blanks ++ print_members ms rest → After limit nest rest → FollowsMove limit (false ∷ nest) ts (after_move (around_of (false ∷ nest)) (class c))
+      → c ∷ ts ≡ blanks ++ print_members ms rest → After limit nest rest → FollowsMove limit (false ∷ nest) ts (after_move (around_of (false ∷ nest)) (class c))
   unfolding print IsValue
   after_object nest (d ∷ ds) ms rest b v e x =
-    after_at (false ∷ nest) Blank (blank_head d _ e b.0) (record { blanks = ds; members = ms; rest = rest; blank = b.1; valid = v; spelled = tail_is d _ e; behind = x })
+      after_at (false ∷ nest) Blank (blank_head d _ e b.0) (record { blanks = ds; members = ms; rest = rest; blank = b.1; valid = v; spelled = tail_is d _ e; behind = x })
   after_object nest [] no_members rest b v e x =
-    after_at (false ∷ nest) ObjectEnd (head_is 125 rest e) (subst (After limit nest) (sym (tail_is 125 rest e)) x)
+      after_at (false ∷ nest) ObjectEnd (head_is 125 rest e) (subst (After limit nest) (sym (tail_is 125 rest e)) x)
   after_object nest [] (more_members (member before name gap (element front w behind)) ms) rest b v e x =
-    after_at (false ∷ nest) Comma (head_is 44 _ e)
-    (record { blanks = before; raw = name; rest = gap ++ 58 ∷ (front ++ print w (behind ++ print_members ms rest)); blank = v.0.0; valid = v.0.1; spelled = tail_is 44 _ e;
-      behind = record { blanks = gap; rest = front ++ print w (behind ++ print_members ms rest); blank = v.0.2; spelled = refl;
-        behind = record { blanks = front; value = w; rest = behind ++ print_members ms rest; blank = v.0.3.0; valid = v.0.3.1; spelled = refl;
-          behind = record { blanks = behind; members = ms; rest = rest; blank = v.0.3.2; valid = v.1; spelled = refl; behind = x } } } })
+      after_at (false ∷ nest) Comma (head_is 44 _ e)
+      (record {
+        blanks = before;
+        raw = name;
+        rest = gap ++ 58 ∷ (front ++ print w (behind ++ print_members ms rest));
+        blank = v.0.0;
+        valid = v.0.1;
+        spelled = tail_is 44 _ e;
+        behind = record {
+          blanks = gap;
+          rest = front ++ print w (behind ++ print_members ms rest);
+          blank = v.0.2;
+          spelled = refl;
+          behind = record {
+            blanks = front;
+            value = w;
+            rest = behind ++ print_members ms rest;
+            blank = v.0.3.0;
+            valid = v.0.3.1;
+            spelled = refl;
+            behind = record { blanks = behind; members = ms; rest = rest; blank = v.0.3.2; valid = v.1; spelled = refl; behind = x };
+          };
+        };
+      })
 
   after_back : (nest : List Bool) → After limit nest (c ∷ ts) → FollowsMove limit nest ts (after_move (around_of nest) (class c))
   after_back [] x = after_at [] Blank (class_blank c x.0) x.1
@@ -315,40 +341,70 @@ module _ (limit : ℕ) (c : ℕ) (ts : List ℕ) where
   -- a number in front of what may follow it
   int_here : (nest : List Bool) (rest : List ℕ) → IntThen rest (c ∷ ts) → After limit nest rest → FollowsMove limit nest ts (value_move (class c))
   int_here nest rest x y =
-    elim (int_back x) [
-      inl z ↦ value_at nest Zero (ap class z.0) (record { rest = rest; valid = z.1; behind = y })
-    | inr z ↦ value_at nest Nonzero (class_nonzero c z.0) (record { rest = rest; valid = z.1; behind = y })
-    ]
+      elim (int_back x) [
+        | inl z ↦ value_at nest Zero (ap class z.0) (record { rest = rest; valid = z.1; behind = y })
+        | inr z ↦ value_at nest Nonzero (class_nonzero c z.0) (record { rest = rest; valid = z.1; behind = y })
+      ]
 
   number_here : (nest : List Bool) (n : Number) (rest : List ℕ) → IsNumber n → c ∷ ts ≡ print_number n rest → After limit nest rest → FollowsMove limit nest ts (value_move (class c))
   number_here nest (unsigned i f e) rest v h x = int_here nest rest (subst (IntThen rest) (sym h) (int_parts i f e rest v.0 v.1 v.2)) x
   number_here nest (negative i f e) rest v h x =
-    value_at nest Minus (head_is 45 _ h) (record { rest = rest; valid = subst (IntThen rest) (sym (tail_is 45 _ h)) (int_parts i f e rest v.0 v.1 v.2); behind = x })
+      value_at nest Minus (head_is 45 _ h) (record { rest = rest; valid = subst (IntThen rest) (sym (tail_is 45 _ h)) (int_parts i f e rest v.0 v.1 v.2); behind = x })
 
   value_split : (nest : List Bool) (blanks : List ℕ) (v : Json) (rest : List ℕ) → AreBlanks blanks → IsValue limit (length nest) v
-    → c ∷ ts ≡ blanks ++ print v rest → After limit nest rest → FollowsMove limit nest ts (value_move (class c))
+      → c ∷ ts ≡ blanks ++ print v rest → After limit nest rest → FollowsMove limit nest ts (value_move (class c))
   unfolding print IsValue
   value_split nest (d ∷ ds) v rest b h e x =
-    value_at nest Blank (blank_head d _ e b.0) (record { blanks = ds; value = v; rest = rest; blank = b.1; valid = h; spelled = tail_is d _ e; behind = x })
+      value_at nest Blank (blank_head d _ e b.0) (record { blanks = ds; value = v; rest = rest; blank = b.1; valid = h; spelled = tail_is d _ e; behind = x })
   value_split nest [] null rest b h e x = value_at nest LetterN (head_is 110 _ e) (record { rest = rest; spelled = tail_is 110 _ e; behind = x })
   value_split nest [] (truth true) rest b h e x = value_at nest LetterT (head_is 116 _ e) (record { rest = rest; spelled = tail_is 116 _ e; behind = x })
   value_split nest [] (truth false) rest b h e x = value_at nest LetterF (head_is 102 _ e) (record { rest = rest; spelled = tail_is 102 _ e; behind = x })
   value_split nest [] (number n) rest b h e x = number_here nest n rest h e x
   value_split nest [] (string raw) rest b h e x = value_at nest Quote (head_is 34 _ e) (record { raw = raw; rest = rest; valid = h; spelled = tail_is 34 _ e; behind = x })
   value_split nest [] (empty_array blanks) rest b h e x =
-    value_at nest ArrayBegin (head_is 91 _ e) (h.0, inl (record { blanks = blanks; rest = rest; blank = h.1; spelled = tail_is 91 _ e; behind = x }))
+      value_at nest ArrayBegin (head_is 91 _ e) (h.0, inl (record { blanks = blanks; rest = rest; blank = h.1; spelled = tail_is 91 _ e; behind = x }))
   value_split nest [] (array (element before w behind) es) rest b h e x =
-    value_at nest ArrayBegin (head_is 91 _ e)
-    (h.0, inr (record { blanks = before; value = w; rest = behind ++ print_elements es rest; blank = h.1.0; valid = h.1.1; spelled = tail_is 91 _ e;
-      behind = record { blanks = behind; elements = es; rest = rest; blank = h.1.2; valid = h.2; spelled = refl; behind = x } }))
+      value_at nest ArrayBegin (head_is 91 _ e) (
+        h.0,
+        inr (record {
+          blanks = before;
+          value = w;
+          rest = behind ++ print_elements es rest;
+          blank = h.1.0;
+          valid = h.1.1;
+          spelled = tail_is 91 _ e;
+          behind = record { blanks = behind; elements = es; rest = rest; blank = h.1.2; valid = h.2; spelled = refl; behind = x };
+        }),
+      )
   value_split nest [] (empty_object blanks) rest b h e x =
-    value_at nest ObjectBegin (head_is 123 _ e) (h.0, inl (record { blanks = blanks; rest = rest; blank = h.1; spelled = tail_is 123 _ e; behind = x }))
+      value_at nest ObjectBegin (head_is 123 _ e) (h.0, inl (record { blanks = blanks; rest = rest; blank = h.1; spelled = tail_is 123 _ e; behind = x }))
   value_split nest [] (object (member before name gap (element front w behind)) ms) rest b h e x =
-    value_at nest ObjectBegin (head_is 123 _ e)
-    (h.0, inr (record { blanks = before; raw = name; rest = gap ++ 58 ∷ (front ++ print w (behind ++ print_members ms rest)); blank = h.1.0; valid = h.1.1; spelled = tail_is 123 _ e;
-      behind = record { blanks = gap; rest = front ++ print w (behind ++ print_members ms rest); blank = h.1.2; spelled = refl;
-        behind = record { blanks = front; value = w; rest = behind ++ print_members ms rest; blank = h.1.3.0; valid = h.1.3.1; spelled = refl;
-          behind = record { blanks = behind; members = ms; rest = rest; blank = h.1.3.2; valid = h.2; spelled = refl; behind = x } } } }))
+      value_at nest ObjectBegin (head_is 123 _ e) (
+        h.0,
+        inr (record {
+          blanks = before;
+          raw = name;
+          rest = gap ++ 58 ∷ (front ++ print w (behind ++ print_members ms rest));
+          blank = h.1.0;
+          valid = h.1.1;
+          spelled = tail_is 123 _ e;
+          behind = record {
+            blanks = gap;
+            rest = front ++ print w (behind ++ print_members ms rest);
+            blank = h.1.2;
+            spelled = refl;
+            behind = record {
+              blanks = front;
+              value = w;
+              rest = behind ++ print_members ms rest;
+              blank = h.1.3.0;
+              valid = h.1.3.1;
+              spelled = refl;
+              behind = record { blanks = behind; members = ms; rest = rest; blank = h.1.3.2; valid = h.2; spelled = refl; behind = x };
+            };
+          };
+        }),
+      )
 
   value_back : (nest : List Bool) → ValueNext limit nest (c ∷ ts) → FollowsMove limit nest ts (value_move (class c))
   value_back nest x = value_split nest x.blanks x.value x.rest x.blank x.valid x.spelled x.behind
@@ -375,7 +431,7 @@ module _ (limit : ℕ) (c : ℕ) (ts : List ℕ) where
   name_split : (nest : List Bool) (blanks raw rest : List ℕ) → AreBlanks blanks → IsInside raw → c ∷ ts ≡ blanks ++ 34 ∷ (raw ++ 34 ∷ rest) → ColonNext limit nest rest → FollowsMove limit nest ts (name_move (class c))
   name_split nest [] raw rest b v e x = name_at nest Quote (head_is 34 _ e) (record { raw = raw; rest = rest; valid = v; spelled = tail_is 34 _ e; behind = x })
   name_split nest (d ∷ ds) raw rest b v e x =
-    name_at nest Blank (blank_head d _ e b.0) (record { blanks = ds; raw = raw; rest = rest; blank = b.1; valid = v; spelled = tail_is d _ e; behind = x })
+      name_at nest Blank (blank_head d _ e b.0) (record { blanks = ds; raw = raw; rest = rest; blank = b.1; valid = v; spelled = tail_is d _ e; behind = x })
 
   name_back : (nest : List Bool) → NameNext limit nest (c ∷ ts) → FollowsMove limit nest ts (name_move (class c))
   name_back nest x = name_split nest x.blanks x.raw x.rest x.blank x.valid x.spelled x.behind
@@ -439,63 +495,63 @@ module _ (limit : ℕ) (c : ℕ) (ts : List ℕ) where
   behind_number nest rest e x = after_back nest (subst (After limit nest) (sym e) x)
 
   digit_at : (s : Digits) (nest : List Bool) → is_digit c ≡ true
-    → FollowsMove limit nest ts (number_move s (around_of nest) Zero) → FollowsMove limit nest ts (number_move s (around_of nest) Nonzero)
-    → FollowsMove limit nest ts (number_move s (around_of nest) (class c))
+      → FollowsMove limit nest ts (number_move s (around_of nest) Zero) → FollowsMove limit nest ts (number_move s (around_of nest) Nonzero)
+      → FollowsMove limit nest ts (number_move s (around_of nest) (class c))
   digit_at s nest h x y = elim (class_digit c h) [ inl e ↦ number_at s nest Zero e x | inr e ↦ number_at s nest Nonzero e y ]
 
   number_back : (s : Digits) (nest : List Bool) (rest : List ℕ) → NumberTail s rest (c ∷ ts) → After limit nest rest → FollowsMove limit nest ts (number_move s (around_of nest) (class c))
   number_back AfterMinus nest rest t x =
-    elim (int_back t) [
-      inl z ↦ number_at AfterMinus nest Zero (ap class z.0) (record { rest = rest; valid = z.1; behind = x })
-    | inr z ↦ number_at AfterMinus nest Nonzero (class_nonzero c z.0) (record { rest = rest; valid = z.1; behind = x })
-    ]
-  number_back AfterZero nest rest t x =
-    elim (frac_back t) [
-      inl z ↦ number_at AfterZero nest Point (ap class z.0) (record { rest = rest; valid = z.1; behind = x })
-    | inr z ↦ elim (exp_back z) [
-        inl y ↦ number_at AfterZero nest LetterE (class_e c y.0) (record { rest = rest; valid = y.1; behind = x })
-      | inr e ↦ zero_falls nest (class c) (behind_number nest rest e x)
+      elim (int_back t) [
+        | inl z ↦ number_at AfterMinus nest Zero (ap class z.0) (record { rest = rest; valid = z.1; behind = x })
+        | inr z ↦ number_at AfterMinus nest Nonzero (class_nonzero c z.0) (record { rest = rest; valid = z.1; behind = x })
       ]
-    ]
-  number_back InInt nest rest t x =
-    elim (digits_back t) [
-      inl d ↦ digit_at InInt nest d.0 (record { rest = rest; valid = d.1; behind = x }) (record { rest = rest; valid = d.1; behind = x })
-    | inr w ↦ elim (frac_back w) [
-        inl z ↦ number_at InInt nest Point (ap class z.0) (record { rest = rest; valid = z.1; behind = x })
-      | inr z ↦ elim (exp_back z) [
-          inl y ↦ number_at InInt nest LetterE (class_e c y.0) (record { rest = rest; valid = y.1; behind = x })
-        | inr e ↦ int_falls nest (class c) (behind_number nest rest e x)
+  number_back AfterZero nest rest t x =
+      elim (frac_back t) [
+        | inl z ↦ number_at AfterZero nest Point (ap class z.0) (record { rest = rest; valid = z.1; behind = x })
+        | inr z ↦ elim (exp_back z) [
+          | inl y ↦ number_at AfterZero nest LetterE (class_e c y.0) (record { rest = rest; valid = y.1; behind = x })
+          | inr e ↦ zero_falls nest (class c) (behind_number nest rest e x)
         ]
       ]
-    ]
-  number_back AfterPoint nest rest t x =
-    let d = digit_back t in
-    digit_at AfterPoint nest d.0 (record { rest = rest; valid = d.1; behind = x }) (record { rest = rest; valid = d.1; behind = x })
-  number_back InFrac nest rest t x =
-    elim (digits_back t) [
-      inl d ↦ digit_at InFrac nest d.0 (record { rest = rest; valid = d.1; behind = x }) (record { rest = rest; valid = d.1; behind = x })
-    | inr z ↦ elim (exp_back z) [
-        inl y ↦ number_at InFrac nest LetterE (class_e c y.0) (record { rest = rest; valid = y.1; behind = x })
-      | inr e ↦ frac_falls nest (class c) (behind_number nest rest e x)
+  number_back InInt nest rest t x =
+      elim (digits_back t) [
+        | inl d ↦ digit_at InInt nest d.0 (record { rest = rest; valid = d.1; behind = x }) (record { rest = rest; valid = d.1; behind = x })
+        | inr w ↦ elim (frac_back w) [
+          | inl z ↦ number_at InInt nest Point (ap class z.0) (record { rest = rest; valid = z.1; behind = x })
+          | inr z ↦ elim (exp_back z) [
+            | inl y ↦ number_at InInt nest LetterE (class_e c y.0) (record { rest = rest; valid = y.1; behind = x })
+            | inr e ↦ int_falls nest (class c) (behind_number nest rest e x)
+          ]
+        ]
       ]
-    ]
+  number_back AfterPoint nest rest t x =
+      let d = digit_back t in
+      digit_at AfterPoint nest d.0 (record { rest = rest; valid = d.1; behind = x }) (record { rest = rest; valid = d.1; behind = x })
+  number_back InFrac nest rest t x =
+      elim (digits_back t) [
+        | inl d ↦ digit_at InFrac nest d.0 (record { rest = rest; valid = d.1; behind = x }) (record { rest = rest; valid = d.1; behind = x })
+        | inr z ↦ elim (exp_back z) [
+          | inl y ↦ number_at InFrac nest LetterE (class_e c y.0) (record { rest = rest; valid = y.1; behind = x })
+          | inr e ↦ frac_falls nest (class c) (behind_number nest rest e x)
+        ]
+      ]
   number_back AfterE nest rest (inl t) x =
-    let s = sign_back t in
-    elim (class_sign c s.0) [
-      inl e ↦ number_at AfterE nest Minus e (record { rest = rest; valid = s.1; behind = x })
-    | inr e ↦ number_at AfterE nest Plus e (record { rest = rest; valid = s.1; behind = x })
-    ]
+      let s = sign_back t in
+      elim (class_sign c s.0) [
+        | inl e ↦ number_at AfterE nest Minus e (record { rest = rest; valid = s.1; behind = x })
+        | inr e ↦ number_at AfterE nest Plus e (record { rest = rest; valid = s.1; behind = x })
+      ]
   number_back AfterE nest rest (inr t) x =
-    let d = digit_back t in
-    digit_at AfterE nest d.0 (record { rest = rest; valid = d.1; behind = x }) (record { rest = rest; valid = d.1; behind = x })
+      let d = digit_back t in
+      digit_at AfterE nest d.0 (record { rest = rest; valid = d.1; behind = x }) (record { rest = rest; valid = d.1; behind = x })
   number_back AfterSign nest rest t x =
-    let d = digit_back t in
-    digit_at AfterSign nest d.0 (record { rest = rest; valid = d.1; behind = x }) (record { rest = rest; valid = d.1; behind = x })
+      let d = digit_back t in
+      digit_at AfterSign nest d.0 (record { rest = rest; valid = d.1; behind = x }) (record { rest = rest; valid = d.1; behind = x })
   number_back InExp nest rest t x =
-    elim (digits_back t) [
-      inl d ↦ digit_at InExp nest d.0 (record { rest = rest; valid = d.1; behind = x }) (record { rest = rest; valid = d.1; behind = x })
-    | inr e ↦ exp_falls nest (class c) (behind_number nest rest e x)
-    ]
+      elim (digits_back t) [
+        | inl d ↦ digit_at InExp nest d.0 (record { rest = rest; valid = d.1; behind = x }) (record { rest = rest; valid = d.1; behind = x })
+        | inr e ↦ exp_falls nest (class c) (behind_number nest rest e x)
+      ]
 
   -- ---- the byte in front, in a word or a string
 
@@ -505,12 +561,12 @@ module _ (limit : ℕ) (c : ℕ) (ts : List ℕ) where
 
   letter_is : (d : ℕ) (us : List ℕ) → c ∷ ts ≡ d ∷ us → (c == d) ≡ true
   letter_is d us e =
-    let is : c ≡ d = cc in
-    eq_of c d is
+      let is : c ≡ d = cc in
+      eq_of c d is
 
   more_letters : (d : ℕ) (w : Letters) (nest : List Bool) → WordThen (d ∷ letters w) (After limit nest) (c ∷ ts) → FollowsMove limit nest ts (letter_move (c == d) (InWord w))
   more_letters d w nest x =
-    letter_back (c == d) (InWord w) nest (letter_is d _ x.spelled) (record { rest = x.rest; spelled = tail_is d _ x.spelled; behind = x.behind })
+      letter_back (c == d) (InWord w) nest (letter_is d _ x.spelled) (record { rest = x.rest; spelled = tail_is d _ x.spelled; behind = x.behind })
 
   last_letter : (d : ℕ) (nest : List Bool) → WordThen (d ∷ []) (After limit nest) (c ∷ ts) → FollowsMove limit nest ts (letter_move (c == d) Ended)
   last_letter d nest x = letter_back (c == d) Ended nest (letter_is d _ x.spelled) (subst (After limit nest) (sym (tail_is d _ x.spelled)) x.behind)
@@ -531,14 +587,14 @@ module _ (limit : ℕ) (c : ℕ) (ts : List ℕ) where
 
   -- the string ends with the byte, or has it inside
   string_split : (P : List ℕ → Type 0) (p : Part) (raw rest : List ℕ) → Tail p raw → c ∷ ts ≡ raw ++ 34 ∷ rest → P rest
-    → ((closes p c ≡ true) × P ts) ⊎ ((closes p c ≡ false) × ((inside : List ℕ) × TailOf (part_next p c) inside × (ts ≡ inside ++ 34 ∷ rest) × P rest))
+      → ((closes p c ≡ true) × P ts) ⊎ ((closes p c ≡ false) × ((inside : List ℕ) × TailOf (part_next p c) inside × (ts ≡ inside ++ 34 ∷ rest) × P rest))
   string_split P p [] rest v e x =
-    let is : c ≡ 34 = cc in
-    inl (closes_quote p (part_end p v) is, subst P (sym (tail_is 34 rest e)) x)
+      let is : c ≡ 34 = cc in
+      inl (closes_quote p (part_end p v) is, subst P (sym (tail_is 34 rest e)) x)
   string_split P p (d ∷ ds) rest v e x =
-    let is : d ≡ c = cc in
-    let here : Tail p (c ∷ ds) = subst (λ y. Tail p (y ∷ ds)) is v in
-    inr (closes_not p c ds here, (ds, part_back p c ds here, tail_is d _ e, x))
+      let is : d ≡ c = cc in
+      let here : Tail p (c ∷ ds) = subst (λ y. Tail p (y ∷ ds)) is v in
+      inr (closes_not p c ds here, (ds, part_back p c ds here, tail_is d _ e, x))
 
   text_open : (p : Part) (nest : List Bool) (rest raw : List ℕ) (o : Option Part) → TailOf o raw → ts ≡ raw ++ 34 ∷ rest → After limit nest rest → FollowsMove limit nest ts (to_text o)
   text_open p nest rest raw None v e x = elim v [ ]
@@ -558,17 +614,17 @@ module _ (limit : ℕ) (c : ℕ) (ts : List ℕ) where
 
   text_back : (p : Part) (nest : List Bool) → StringThen p (After limit nest) (c ∷ ts) → FollowsMove limit nest ts (text_move p c)
   text_back p nest x =
-    elim (string_split (After limit nest) p x.raw x.rest x.valid x.spelled x.behind) [
-      inl y ↦ move_true nest (closes p c) (To Ended) _ y.0 y.1
-    | inr y ↦ move_false nest (closes p c) (To Ended) _ y.0 (text_open p nest x.rest y.1.0 (part_next p c) y.1.1 y.1.2 y.1.3)
-    ]
+      elim (string_split (After limit nest) p x.raw x.rest x.valid x.spelled x.behind) [
+        | inl y ↦ move_true nest (closes p c) (To Ended) _ y.0 y.1
+        | inr y ↦ move_false nest (closes p c) (To Ended) _ y.0 (text_open p nest x.rest y.1.0 (part_next p c) y.1.1 y.1.2 y.1.3)
+      ]
 
   in_name_back : (p : Part) (nest : List Bool) → StringThen p (ColonNext limit nest) (c ∷ ts) → FollowsMove limit nest ts (in_name_move p c)
   in_name_back p nest x =
-    elim (string_split (ColonNext limit nest) p x.raw x.rest x.valid x.spelled x.behind) [
-      inl y ↦ move_true nest (closes p c) (To ColonDue) _ y.0 y.1
-    | inr y ↦ move_false nest (closes p c) (To ColonDue) _ y.0 (in_name_open p nest x.rest y.1.0 (part_next p c) y.1.1 y.1.2 y.1.3)
-    ]
+      elim (string_split (ColonNext limit nest) p x.raw x.rest x.valid x.spelled x.behind) [
+        | inl y ↦ move_true nest (closes p c) (To ColonDue) _ y.0 y.1
+        | inr y ↦ move_false nest (closes p c) (To ColonDue) _ y.0 (in_name_open p nest x.rest y.1.0 (part_next p c) y.1.1 y.1.2 y.1.3)
+      ]
 
   -- what follows a byte, without the byte
   pub step_back : (m : Mode) (nest : List Bool) → Follows limit m nest (c ∷ ts) → FollowsMove limit nest ts (step m (around_of nest) c)

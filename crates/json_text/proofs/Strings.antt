@@ -116,18 +116,20 @@ code_three a n ha [] x = elim x [ ]
 code_three a n ha (b ∷ []) x = elim x.1 [ ]
 code_three a n ha (b ∷ c ∷ []) x = elim x.1.1 [ ]
 code_three a n ha (b ∷ c ∷ d ∷ rest) x =
-    more (code (hex_of a b c d)) rest
-    (all_four (is_hex_digit a) (is_hex_digit b) (is_hex_digit c) (is_hex_digit d) ha x.0 x.1.0 x.1.1.0,
-    code_other (digit_value a) (digit_value b) (digit_value c) (digit_value d) n ha x.0 x.1.0 x.1.1.0)
+    more (code (hex_of a b c d)) rest (
+      all_four (is_hex_digit a) (is_hex_digit b) (is_hex_digit c) (is_hex_digit d) ha x.0 x.1.0 x.1.1.0,
+      code_other (digit_value a) (digit_value b) (digit_value c) (digit_value d) n ha x.0 x.1.0 x.1.1.0,
+    )
     x.1.1.1
 
 code_two : (a b : ℕ) → is_d a ≡ true → is_eight_less b ≡ true → (cs : List ℕ) → Due (is_hex_digit ∷ is_hex_digit ∷ []) cs → IsInside (92 ∷ 117 ∷ a ∷ b ∷ cs)
 code_two a b ha hb [] x = elim x [ ]
 code_two a b ha hb (c ∷ []) x = elim x.1 [ ]
 code_two a b ha hb (c ∷ d ∷ rest) x =
-    more (code (hex_of a b c d)) rest
-    (all_four (is_hex_digit a) (is_hex_digit b) (is_hex_digit c) (is_hex_digit d) (thirteen (digit_value a) ha) (below_16 (digit_value b) 8 (lit≤ tt) hb) x.0 x.1.0,
-    code_low (digit_value a) (digit_value b) (digit_value c) (digit_value d) ha hb x.0 x.1.0)
+    more (code (hex_of a b c d)) rest (
+      all_four (is_hex_digit a) (is_hex_digit b) (is_hex_digit c) (is_hex_digit d) (thirteen (digit_value a) ha) (below_16 (digit_value b) 8 (lit≤ tt) hb) x.0 x.1.0,
+      code_low (digit_value a) (digit_value b) (digit_value c) (digit_value d) ha hb x.0 x.1.0,
+    )
     x.1.1
 
 code_pair : (a b : ℕ) → is_d a ≡ true → is_eight_less b ≡ false → is_high_third b ≡ true → (cs : List ℕ) → Due (is_hex_digit ∷ is_hex_digit ∷ second_half) cs → IsInside (92 ∷ 117 ∷ a ∷ b ∷ cs)
@@ -141,11 +143,16 @@ code_pair a b ha nb hb (c ∷ d ∷ e ∷ f ∷ i ∷ j ∷ []) x = elim x.1.1.1
 code_pair a b ha nb hb (c ∷ d ∷ e ∷ f ∷ i ∷ j ∷ k ∷ []) x = elim x.1.1.1.1.1.1.1 [ ]
 code_pair a b ha nb hb (c ∷ d ∷ e ∷ f ∷ i ∷ j ∷ k ∷ l ∷ rest) x =
     let P : ℕ → ℕ → Type 0 = λ s u. IsInside (92 ∷ 117 ∷ a ∷ b ∷ c ∷ d ∷ s ∷ u ∷ i ∷ j ∷ k ∷ l ∷ rest) in
-    let there : P 92 117 = more (pair (hex_of a b c d) (hex_of i j k l)) rest
-    ((all_four (is_hex_digit a) (is_hex_digit b) (is_hex_digit c) (is_hex_digit d) (thirteen (digit_value a) ha) (below_16 (digit_value b) 12 (lit≤ tt) hb) x.0 x.1.0,
-    all_four (is_hex_digit i) (is_hex_digit j) (is_hex_digit k) (is_hex_digit l) (thirteen (digit_value i) x.1.1.1.1.0) (within_16 (digit_value j) x.1.1.1.1.1.0) x.1.1.1.1.1.1.0 x.1.1.1.1.1.1.1.0),
-    (code_high (digit_value a) (digit_value b) (digit_value c) (digit_value d) ha nb hb x.0 x.1.0,
-    code_second (digit_value i) (digit_value j) (digit_value k) (digit_value l) x.1.1.1.1.0 x.1.1.1.1.1.0 x.1.1.1.1.1.1.0 x.1.1.1.1.1.1.1.0))
+    let there : P 92 117 = more (pair (hex_of a b c d) (hex_of i j k l)) rest (
+      (
+        all_four (is_hex_digit a) (is_hex_digit b) (is_hex_digit c) (is_hex_digit d) (thirteen (digit_value a) ha) (below_16 (digit_value b) 12 (lit≤ tt) hb) x.0 x.1.0,
+        all_four (is_hex_digit i) (is_hex_digit j) (is_hex_digit k) (is_hex_digit l) (thirteen (digit_value i) x.1.1.1.1.0) (within_16 (digit_value j) x.1.1.1.1.1.0) x.1.1.1.1.1.1.0 x.1.1.1.1.1.1.1.0,
+      ),
+      (
+        code_high (digit_value a) (digit_value b) (digit_value c) (digit_value d) ha nb hb x.0 x.1.0,
+        code_second (digit_value i) (digit_value j) (digit_value k) (digit_value l) x.1.1.1.1.0 x.1.1.1.1.1.0 x.1.1.1.1.1.1.0 x.1.1.1.1.1.1.1.0,
+      ),
+    )
     x.1.1.1.1.1.1.1.1 in
     subst (λ u. P e u) (sym (eq_is f 117 x.1.1.1.0)) (subst (λ s. P s 117) (sym (eq_is e 92 x.1.1.0)) there)
 
@@ -233,10 +240,10 @@ plain_tests c l q s = (grind (arith, nat_tests), grind (arith, nat_tests))
 pub part_forth : (p : Part) (c : ℕ) (raw : List ℕ) → TailOf (part_next p c) raw → Tail p (c ∷ raw)
 part_forth Inside c raw x =
     elim (cond_forth (c == 92) (Some Escape) _ raw x) [
-      inl y ↦ subst (λ d. IsInside (d ∷ raw)) (sym (eq_is c 92 y.0)) (behind_solidus raw y.1)
-    | inr y ↦ elim (cond_forth (c == 34 || nat_lt c 32) None (Some Inside) raw y.1) [
-        inl z ↦ absurd z.1
-      | inr z ↦ more (unescaped c) raw (plain_byte c y.0 z.0) z.1
+      | inl y ↦ subst (λ d. IsInside (d ∷ raw)) (sym (eq_is c 92 y.0)) (behind_solidus raw y.1)
+      | inr y ↦ elim (cond_forth (c == 34 || nat_lt c 32) None (Some Inside) raw y.1) [
+        | inl z ↦ absurd z.1
+        | inr z ↦ more (unescaped c) raw (plain_byte c y.0 z.0) z.1
       ]
     ]
 part_forth Escape c raw x =

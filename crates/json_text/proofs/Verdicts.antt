@@ -227,13 +227,13 @@ deep_move : (mv : Move) (nest : List Bool) (at i : ℕ) (cs : List ℕ) (f : Mod
 deep_move (To m) nest at i cs f b ih h = deep_later (ih m nest b h)
 deep_move OpenArray nest at i cs f b ih h =
     elim (opened_deep (nat_lt (length nest) levels) (f ElementDue (true ∷ nest)) at i h) [
-      inl x ↦ let l = lt_is (length nest) levels x.0 in deep_later (deep_array nest cs (suc at) i l (ih ElementDue (true ∷ nest) (omega arith) x.1))
-    | inr x ↦ array_here refl x.1 (not_lt (length nest) levels x.0)
+      | inl x ↦ let l = lt_is (length nest) levels x.0 in deep_later (deep_array nest cs (suc at) i l (ih ElementDue (true ∷ nest) (omega arith) x.1))
+      | inr x ↦ array_here refl x.1 (not_lt (length nest) levels x.0)
     ]
 deep_move OpenObject nest at i cs f b ih h =
     elim (opened_deep (nat_lt (length nest) levels) (f FirstNameDue (false ∷ nest)) at i h) [
-      inl x ↦ let l = lt_is (length nest) levels x.0 in deep_later (deep_object nest cs (suc at) i l (ih FirstNameDue (false ∷ nest) (omega arith) x.1))
-    | inr x ↦ object_here refl x.1 (not_lt (length nest) levels x.0)
+      | inl x ↦ let l = lt_is (length nest) levels x.0 in deep_later (deep_object nest cs (suc at) i l (ih FirstNameDue (false ∷ nest) (omega arith) x.1))
+      | inr x ↦ object_here refl x.1 (not_lt (length nest) levels x.0)
     ]
 deep_move Close nest at i cs f b ih h = deep_later (ih Ended (behind_close nest) (close_within nest b) h)
 deep_move Refuse nest at i cs f b ih h = absurd (cc)
@@ -316,8 +316,8 @@ unfit_fault bytes i h =
     record {
       begun = subst (λ k. BeginsText levels (take k bytes)) place (begins x.told.begun);
       longest = λ limit l y.
-        let z : BeginsText limit (take (suc x.k) bytes) = subst (λ k. BeginsText limit (take k bytes)) (sym one) y in
-        x.told.longest limit z.rest (omega arith) (of_text z.whole);
+          let z : BeginsText limit (take (suc x.k) bytes) = subst (λ k. BeginsText limit (take k bytes)) (sym one) y in
+          x.told.longest limit z.rest (omega arith) (of_text z.whole);
       wrong = λ limit y. x.told.wrong limit (of_text y);
     }
 
@@ -330,6 +330,6 @@ deep_fault bytes i h =
       begun = subst (λ k. BeginsText levels (take k bytes)) place (begins x.told.begun);
       deeper = subst (λ k. BeginsText (levels + 1) (take k bytes)) one (begins x.told.deeper);
       past = λ y.
-        let z : BeginsText levels (take (suc x.k) bytes) = subst (λ k. BeginsText levels (take k bytes)) (sym one) y in
-        x.told.past z.rest (of_text z.whole);
+          let z : BeginsText levels (take (suc x.k) bytes) = subst (λ k. BeginsText levels (take k bytes)) (sym one) y in
+          x.told.past z.rest (of_text z.whole);
     }

@@ -1,3 +1,4 @@
 pub mod Grammar
+pub mod Judged
 pub mod Machine
 pub mod Texts

@@ -1,5 +1,5 @@
 -- A reader that takes a JSON text byte by byte: what is due, and the brackets that are open, the innermost first.
-use Rattle.std.specs.Prelude.{◌≡◌, ℕ, suc, Bool, true, false, ◌||◌, ◌&&◌, nat_lt, nat_le, ◌==◌, List, [], ◌∷◌, length, Option, None, Some, if◌then◌else◌}
+use Rattle.std.specs.Prelude.{◌≡◌, ℕ, zero, suc, ◌%◌, ◌/◌, Bool, true, false, ◌||◌, ◌&&◌, nat_lt, nat_le, ◌==◌, List, [], ◌∷◌, length, Option, None, Some, if◌then◌else◌}
 use Rattle.std.specs.Char.{digit_value}
 use Rattle.text_view.specs.JsonString.{is_letter}
 use Rattle.json_text.specs.Grammar.{is_blank, is_nonzero_digit, is_e}
@@ -232,6 +232,11 @@ may_end m nest = is_outside nest && may_end_value m
 abbrev pub behind_close : List Bool → List Bool
 behind_close [] = []
 behind_close (b ∷ nest) = nest
+
+-- the open brackets from their bits
+abbrev pub nest_of : ℕ → ℕ → List Bool
+nest_of bits zero = []
+nest_of bits (suc depth) = (bits % 2 == 1) ∷ nest_of (bits / 2) depth
 
 -- how a text ends from here on
 pub data Verdict : Type 0 where

@@ -2,4 +2,6 @@
 #![tactic(auto)]
 
 mod bytes;
+mod judge;
 mod machine;
+mod nest;
