@@ -6,3 +6,6 @@ pub mod Steps
 pub mod Ends
 pub mod Verdicts
 pub mod Nests
+pub mod Prints
+pub mod Trims
+pub mod Checks

@@ -1,4 +1,6 @@
 pub mod Grammar
 pub mod Judged
 pub mod Machine
+pub mod Nodes
 pub mod Texts
+pub mod Trimmed

@@ -2,6 +2,12 @@
 #![tactic(auto)]
 
 mod bytes;
+mod checking;
 mod judge;
 mod machine;
 mod nest;
+mod node;
+mod trim;
+
+pub use crate::checking::{JsonCode, JsonFault, check};
+pub use crate::node::{JsonNode, Kind};
