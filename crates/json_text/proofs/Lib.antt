@@ -9,3 +9,4 @@ pub mod Nests
 pub mod Prints
 pub mod Trims
 pub mod Checks
+pub mod Skips

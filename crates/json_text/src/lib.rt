@@ -7,6 +7,7 @@ mod judge;
 mod machine;
 mod nest;
 mod node;
+mod skip;
 mod trim;
 
 pub use crate::checking::{JsonCode, JsonFault, check};
