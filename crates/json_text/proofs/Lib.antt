@@ -10,3 +10,4 @@ pub mod Prints
 pub mod Trims
 pub mod Checks
 pub mod Skips
+pub mod Walking

@@ -5,3 +5,4 @@ pub mod Nodes
 pub mod Skipped
 pub mod Texts
 pub mod Trimmed
+pub mod Walks

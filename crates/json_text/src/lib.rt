@@ -3,6 +3,7 @@
 
 mod bytes;
 mod checking;
+mod elements;
 mod judge;
 mod machine;
 mod nest;
@@ -11,4 +12,5 @@ mod skip;
 mod trim;
 
 pub use crate::checking::{JsonCode, JsonFault, check};
+pub use crate::elements::Elements;
 pub use crate::node::{JsonNode, Kind};

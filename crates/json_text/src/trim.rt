@@ -1,5 +1,5 @@
 //! Blanks around a value are left out.
-ghost use Rattle.std.specs.Prelude.{◌≡◌, ◌<◌, ◌≤◌, ◌+◌, length, take, slice_index};
+ghost use Rattle.std.specs.Prelude.{◌≡◌, ◌<◌, ◌≤◌, ◌+◌, length, take, drop, slice_index};
 ghost use Rattle.std.specs.List.{prefix_len};
 ghost use Rattle.json_text.specs.Grammar.{is_blank};
 ghost use Rattle.json_text.specs.Trimmed.{content, skip_blanks};
@@ -39,6 +39,23 @@ pub(crate) fn blanks_in_front(bytes: &[u8]) -> usize
     ensures { result ≡ prefix_len is_blank bytes.now }
 {
     bytes.iter().take_while(|b| is_blank_byte(**b)).count()
+}
+
+/// The place behind the blanks that stand at `at`.
+pub(crate) fn blanks_end(bytes: &[u8], at: usize) -> usize
+    requires { at ≤ length bytes.now }
+    ensures value { drop result bytes.now ≡ skip_blanks (drop at bytes.now) }
+    ensures after { at ≤ result }
+    ensures within { result ≤ length bytes.now }
+{
+    let mut end = at;
+    'each: while end < bytes.len() {
+        if !is_blank_byte(bytes[end]) {
+            return end;
+        }
+        end += 1;
+    }
+    end
 }
 
 /// The number of bytes before the blanks at the end.
