@@ -11,3 +11,4 @@ pub mod Trims
 pub mod Checks
 pub mod Skips
 pub mod Walking
+pub mod Quoted

@@ -59,3 +59,10 @@ kind_by_class _ = Number
 abbrev pub kind_at : List ℕ → Kind
 kind_at [] = Null
 kind_at (c ∷ cs) = kind_by_class (class c)
+
+-- the characters that a string stands for; another value has none
+abbrev pub IsTextOf : Json → Option (List ℕ) → Type 0
+IsTextOf (string raw) None = ⊥
+IsTextOf (string raw) (Some text) = text ≡ unescaped_text (chars raw)
+IsTextOf _ None = Unit {0}
+IsTextOf _ (Some text) = ⊥

@@ -2,10 +2,11 @@
 ghost use Rattle.std.specs.Prelude.{◌≡◌, ℕ, List, Option, Some, None, slice_index};
 ghost use Rattle.std.specs.Str.{chars};
 ghost use Rattle.json_text.specs.Grammar.{Json};
-ghost use Rattle.json_text.specs.Nodes.{IsNode, Spells, kind_of, kind_at, kind_by_class};
+ghost use Rattle.json_text.specs.Nodes.{IsNode, Spells, kind_of, kind_at, kind_by_class, IsTextOf};
 
 use crate::bytes::{Class, class_of};
 use std::marker::Model;
+use text_view::Text;
 
 /// What a value is.
 #[derive(Clone, Copy, PartialEq, Eq, Debug)]
@@ -65,6 +66,21 @@ impl<'r> JsonNode<'r> {
         ensures { (tree : Json) → Spells self.now tree → result ≡ kind_of tree }
     {
         kind_from(self.token.as_bytes())
+    }
+
+    /// The characters of a string, lent; nothing for another value. A string without an escape is lent
+    /// as plain.
+    pub fn text(&self) -> Option<Text<'r>>
+        ensures { (tree : Json) → Spells self.now tree → IsTextOf tree result }
+    {
+        let len = self.token.len();
+        if len < 2 {
+            return None;
+        }
+        if self.token.as_bytes()[0] == b'"' {
+            return Some(Text::json(&self.token[1..len - 1]));
+        }
+        None
     }
 }
 
