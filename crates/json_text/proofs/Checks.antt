@@ -1,12 +1,11 @@
 -- What `check` answers.
-use Rattle.std.proofs.Common.{◌≡◌, ℕ, true, false, List, [], ◌∷◌, refl, sym, ◌∙◌, ap, subst}
+use Rattle.std.proofs.Common.{◌≡◌, ℕ, true, false, List, [], refl, sym, ◌∙◌, ap, subst}
 use Rattle.std.specs.Str.{IsUtf8}
-use Rattle.json_text.specs.Grammar.{Json, null, truth, number, string, empty_array, array, empty_object, object, unsigned, negative, Int, zero_int, nonzero_int, print, IsValue, IsNumber, Number, print_number}
-use Rattle.json_text.specs.Texts.{IsText, levels}
-use Rattle.json_text.specs.Machine.{class, verdict, accepted, unfit, too_deep}
+use Rattle.json_text.specs.Grammar.{Json, null, truth, number, string, empty_array, array, empty_object, object, unsigned, negative, zero_int, nonzero_int, print, IsValue, IsNumber, Number, print_number}
+use Rattle.json_text.specs.Texts.{levels}
+use Rattle.json_text.specs.Machine.{verdict, accepted, unfit, too_deep}
 use Rattle.json_text.specs.Trimmed.{content, skip_blanks}
 use Rattle.json_text.specs.Nodes.{IsNode, StandsIn, Spells, IsFault, kind_of, kind_at, kind_by_class}
-use Rattle.json_text.specs.declared.checking.JsonCode.{JsonCode}
 use Rattle.json_text.specs.declared.checking.JsonCode.TheVariants.{JSONParsingError, JSONTooDeep}
 use Rattle.json_text.specs.declared.machine.Mode.TheVariants.{ValueDue}
 use Rattle.json_text.specs.declared.node.Kind.{Kind}

@@ -1,8 +1,7 @@
 -- A text's end, and that each state of the reader can be brought to one.
-use Rattle.std.proofs.Common.{◌≡◌, ℕ, suc, ◌<◌, ◌⊎◌, inl, inr, Bool, true, false, List, [], ◌∷◌, ◌++◌, length, refl, sym, ◌∙◌, ap, subst}
-use Rattle.text_view.specs.JsonString.{Piece}
-use Rattle.json_text.specs.Grammar.{Json, null, truth, number, string, empty_array, array, empty_object, object, Elements, no_elements, more_elements, Members, no_members, more_members, Number, unsigned, negative, Int, zero_int, nonzero_int, print_int, print_number, Frac, no_frac, frac, print_frac, Exp, no_exp, unsigned_exp, signed_exp, print_exp, print, print_elements, print_members, IsValue, AreElements, AreMembers, AreBlanks}
-use Rattle.json_text.specs.Machine.{behind_close, may_end, may_end_value, may_end_number}
+use Rattle.std.proofs.Common.{◌≡◌, ℕ, inl, inr, Bool, true, false, List, [], ◌∷◌, ◌++◌, refl, sym, ◌∙◌, subst}
+use Rattle.json_text.specs.Grammar.{Json, null, truth, number, string, empty_array, array, empty_object, object, Elements, no_elements, more_elements, Members, no_members, more_members, Number, unsigned, negative, Int, zero_int, nonzero_int, print_int, print_number, Frac, no_frac, frac, print_frac, Exp, no_exp, unsigned_exp, signed_exp, print_exp, print, print_elements, print_members, IsValue}
+use Rattle.json_text.specs.Machine.{may_end, may_end_value, may_end_number}
 use Rattle.json_text.specs.declared.machine.Mode.{Mode}
 use Rattle.json_text.specs.declared.machine.Mode.TheVariants.{ValueDue, ElementDue, NameDue, FirstNameDue, ColonDue, Ended, InWord, InNumber, InText, InName}
 use Rattle.json_text.specs.declared.machine.Letters.{Letters}
@@ -12,8 +11,8 @@ use Rattle.json_text.specs.declared.machine.Digits.TheVariants.{AfterMinus, Afte
 use Rattle.json_text.specs.declared.machine.Part.{Part}
 use Rattle.json_text.specs.declared.machine.Part.TheVariants.{Inside, Escape, CodeDue, AfterD, Three, Two, One, HighTwo, HighOne, LowEscape, LowMark, LowD, LowDigit}
 use Rattle.json_text.proofs.Strings.{Tail, nothing}
-use Rattle.json_text.proofs.Numbers.{NumberTail, IntThen, FracThen, ExpThen, DigitsThen, DigitThen, SignThen, Ends, digits_none, digit_first, exp_none, frac_none, int_zero}
-use Rattle.json_text.proofs.Follows.{ElementsThen, MembersThen, ValueThen, ByteThen, NameThen, StringThen, WordThen, NumberThen, letters, After, ValueNext, ColonNext, NameNext, Follows}
+use Rattle.json_text.proofs.Numbers.{NumberTail, FracThen, ExpThen, digits_none, digit_first, exp_none, frac_none, int_zero}
+use Rattle.json_text.proofs.Follows.{StringThen, NumberThen, letters, After, ValueNext, ColonNext, NameNext, Follows}
 
 -- ---- what can't be at an end
 

@@ -1,5 +1,5 @@
 -- What may follow in a number, from each place of it.
-use Rattle.std.proofs.Common.{◌≡◌, ℕ, ◌⊎◌, inl, inr, Bool, true, false, List, [], ◌∷◌, ◌++◌, refl, sym, ◌∙◌, ap, subst}
+use Rattle.std.proofs.Common.{◌≡◌, ℕ, ◌⊎◌, inl, inr, true, List, [], ◌∷◌, ◌++◌, refl, sym, ◌∙◌, ap, subst}
 use Rattle.json_text.specs.Grammar.{is_nonzero_digit, is_digit, is_e, is_sign, AreDigits, Int, zero_int, nonzero_int, print_int, IsInt, Frac, no_frac, frac, print_frac, IsFrac, Exp, no_exp, unsigned_exp, signed_exp, print_exp, IsExp, Number, unsigned, negative, print_number, IsNumber}
 use Rattle.json_text.specs.declared.machine.Digits.{Digits}
 use Rattle.json_text.specs.declared.machine.Digits.TheVariants.{AfterMinus, AfterZero, InInt, AfterPoint, InFrac, AfterE, AfterSign, InExp}

@@ -1,11 +1,10 @@
 -- Skipping a value leaves what stands behind it.
-use Rattle.std.proofs.Common.{◌≡◌, ◌≢◌, ℕ, zero, suc, ◌<◌, ◌≤◌, ◌⊎◌, inl, inr, Bool, true, false, cond, ◌||◌, ◌&&◌, ◌==◌, nat_lt, nat_le, List, [], ◌∷◌, ◌++◌, length, drop, get_or, ◌+◌, add-one, drop-cons, refl, sym, ◌∙◌, ap, subst, arith}
+use Rattle.std.proofs.Common.{◌≡◌, ◌≢◌, ℕ, zero, suc, ◌<◌, Bool, true, false, cond, ◌&&◌, ◌==◌, nat_lt, List, [], ◌∷◌, ◌++◌, length, drop, get_or, ◌+◌, add-one, drop-cons, refl, sym, ◌∙◌, ap, subst, arith}
 use Rattle.std.specs.Char.{digit_value}
 use Rattle.std.proofs.lemmas.Bool.Decides.{nat_tests}
 use Rattle.text_view.specs.JsonString.{Hex, is_hex, Piece, unescaped, short, code, pair, ArePieces, print_pieces}
 use Rattle.json_text.specs.Grammar.{Json, null, truth, number, string, empty_array, array, empty_object, object, Element, element, Elements, no_elements, more_elements, Member, member, Members, no_members, more_members, Number, unsigned, negative, print_number, IsNumber, Int, zero_int, nonzero_int, print_int, IsInt, Frac, no_frac, frac, print_frac, IsFrac, Exp, no_exp, unsigned_exp, signed_exp, print_exp, IsExp, AreDigits, print, print_element, print_elements, print_member, print_members, IsValue, IsElement, AreElements, IsMember, AreMembers, AreBlanks, IsInside, is_blank, is_digit, is_nonzero_digit, is_e, is_sign}
-use Rattle.json_text.specs.Skipped.{string_rest, is_open, is_close, Place, outside, inside, skip, is_stop, token_rest, value_rest}
-use Rattle.json_text.proofs.Prints.{app_assoc}
+use Rattle.json_text.specs.Skipped.{string_rest, is_open, is_close, outside, inside, skip, is_stop, token_rest, value_rest}
 
 -- ---- strings
 

@@ -1,9 +1,9 @@
 -- A byte more: what follows it is what the reader's step says.
 use Rattle.std.proofs.Common.{◌≡◌, ℕ, suc, ◌<◌, ◌⊎◌, inl, inr, Bool, true, false, cond, ◌==◌, List, [], ◌∷◌, ◌++◌, length, Option, None, Some, refl, sym, ◌∙◌, ap, subst}
-use Rattle.json_text.specs.Grammar.{Json, null, truth, number, string, empty_array, array, empty_object, object, Element, element, Elements, no_elements, more_elements, Member, member, Members, no_members, more_members, Number, unsigned, negative, print_number, IsNumber, print, print_elements, print_members, IsValue, AreElements, AreMembers, AreBlanks, IsInside, is_blank, is_e, is_sign, is_digit, is_nonzero_digit}
+use Rattle.json_text.specs.Grammar.{Json, null, truth, number, string, empty_array, array, empty_object, object, element, Elements, no_elements, more_elements, member, Members, no_members, more_members, Number, unsigned, negative, print_number, IsNumber, print, print_elements, print_members, IsValue, AreElements, AreMembers, AreBlanks, IsInside, is_blank, is_sign, is_digit}
 use Rattle.json_text.specs.Machine.{class, step, around_of, behind_close, after_move, value_move, first_element_move, name_move, first_name_move, colon_move, number_move, word_move, letter_move, text_move, in_name_move, to_text, to_name, part_next, closes}
 use Rattle.json_text.specs.declared.bytes.Class.{Class}
-use Rattle.json_text.specs.declared.bytes.Class.TheVariants.{Blank, Quote, ArrayBegin, ArrayEnd, ObjectBegin, ObjectEnd, Comma, Colon, Minus, Plus, Point, Zero, Nonzero, LetterE, LetterN, LetterT, LetterF, Other}
+use Rattle.json_text.specs.declared.bytes.Class.TheVariants.{Blank, Quote, ArrayBegin, ArrayEnd, ObjectBegin, ObjectEnd, Comma, Colon, Minus, Plus, Point, Zero, Nonzero, LetterE, LetterN, LetterT, LetterF}
 use Rattle.json_text.specs.declared.machine.Mode.{Mode}
 use Rattle.json_text.specs.declared.machine.Mode.TheVariants.{ValueDue, ElementDue, NameDue, FirstNameDue, ColonDue, Ended, InWord, InNumber, InText, InName}
 use Rattle.json_text.specs.declared.machine.Letters.{Letters}
@@ -13,10 +13,10 @@ use Rattle.json_text.specs.declared.machine.Digits.TheVariants.{AfterMinus, Afte
 use Rattle.json_text.specs.declared.machine.Part.{Part}
 use Rattle.json_text.specs.declared.machine.Part.TheVariants.{Inside, Escape, CodeDue, AfterD, Three, Two, One, HighTwo, HighOne, LowEscape, LowMark, LowD, LowDigit}
 use Rattle.json_text.specs.declared.machine.Move.{Move}
-use Rattle.json_text.specs.declared.machine.Move.TheVariants.{To, OpenArray, OpenObject, Close, Refuse}
+use Rattle.json_text.specs.declared.machine.Move.TheVariants.{To}
 use Rattle.json_text.proofs.Classes.{Means, class_means, class_blank, class_nonzero, class_digit, class_e, class_sign, digit_zero, digit_nonzero, eq_is, eq_of}
 use Rattle.json_text.proofs.Strings.{Tail, TailOf, part_forth, part_back, part_end, closes_not, nothing}
-use Rattle.json_text.proofs.Numbers.{cons_is, NumberTail, IntThen, FracThen, ExpThen, DigitsThen, BehindE, Ends, digits_none, digits_more, digit_first, exp_first, frac_first, int_zero, int_nonzero, sign_first, exp_none, frac_none, digits_back, digit_back, exp_back, frac_back, int_back, sign_back, unsigned_number, negative_number, int_parts}
+use Rattle.json_text.proofs.Numbers.{cons_is, NumberTail, IntThen, digits_none, digits_more, digit_first, exp_first, frac_first, int_zero, int_nonzero, sign_first, exp_none, frac_none, digits_back, digit_back, exp_back, frac_back, int_back, sign_back, unsigned_number, negative_number, int_parts}
 use Rattle.json_text.proofs.Follows.{ElementsThen, MembersThen, ValueThen, ByteThen, NameThen, StringThen, WordThen, NumberThen, letters, After, ValueNext, ColonNext, NameNext, Follows, FollowsMove}
 
 -- ---- a blank in front

@@ -1,10 +1,10 @@
 -- What may follow in a string, from each place of it.
-use Rattle.std.proofs.Common.{◌≡◌, ◌≢◌, ℕ, suc, ◌+◌, ◌*◌, ◌<◌, ◌≤◌, ◌⊎◌, inl, inr, Bool, true, false, cond, ◌&&◌, ◌||◌, not, ◌==◌, nat_lt, nat_le, List, [], ◌∷◌, ◌++◌, Option, None, Some, lit≤, refl, sym, ◌∙◌, ap, subst, arith}
+use Rattle.std.proofs.Common.{◌≡◌, ◌≢◌, ℕ, ◌+◌, ◌*◌, ◌≤◌, ◌⊎◌, inl, inr, Bool, true, false, cond, ◌&&◌, ◌||◌, not, ◌==◌, nat_lt, nat_le, List, [], ◌∷◌, Option, None, Some, lit≤, refl, sym, ◌∙◌, ap, subst, arith}
 use Rattle.std.specs.Char.{digit_value}
 use Rattle.std.proofs.lemmas.Bool.Decides.{nat_tests}
 use Rattle.text_view.specs.JsonString.{Hex, is_hex, hex_value, is_high_surrogate, is_low_surrogate, is_letter, Piece, IsPiece, print_piece, unescaped, short, code, pair, ArePieces, print_pieces}
 use Rattle.json_text.specs.Grammar.{IsInside}
-use Rattle.json_text.specs.Machine.{part_next, escape_next, inside_next, part_if, is_hex_digit, is_d, is_eight_less, is_high_third, is_low_third, closes}
+use Rattle.json_text.specs.Machine.{part_next, inside_next, part_if, is_hex_digit, is_d, is_eight_less, is_high_third, is_low_third, closes}
 use Rattle.json_text.specs.declared.machine.Part.{Part}
 use Rattle.json_text.specs.declared.machine.Part.TheVariants.{Inside, Escape, CodeDue, AfterD, Three, Two, One, HighTwo, HighOne, LowEscape, LowMark, LowD, LowDigit}
 use Rattle.json_text.proofs.Classes.{eq_is, eq_of}

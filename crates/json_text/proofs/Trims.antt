@@ -1,16 +1,16 @@
 -- Blanks in front and at the end.
-use Rattle.std.proofs.Common.{◌≡◌, ℕ, zero, suc, ◌+◌, ◌-◌, ◌<◌, ◌≤◌, Bool, true, false, cond, ◌||◌, ◌==◌, List, [], ◌∷◌, ◌++◌, length, take, drop, get_or, one-add, refl, sym, ◌∙◌, ap, subst, arith}
+use Rattle.std.proofs.Common.{◌≡◌, ℕ, suc, ◌+◌, ◌-◌, ◌<◌, ◌≤◌, Bool, true, false, cond, List, [], ◌∷◌, ◌++◌, length, take, drop, get_or, one-add, refl, sym, ◌∙◌, ap, subst, arith}
 use Rattle.std.proofs.lemmas.Bool.Decides.{nat_tests}
 use Rattle.std.proofs.lemmas.List.Sums.{prefix_len_passes, prefix_len-le-length}
-use Rattle.std.proofs.lemmas.Str.{IsCharBoundary-after_ascii, IsCharBoundary-before_ascii, IsCharBoundary-end}
+use Rattle.std.proofs.lemmas.Str.{IsCharBoundary-after_ascii}
 use Rattle.std.proofs.Math.Seq.{take-suc}
 use Rattle.std.specs.List.{prefix_len}
 use Rattle.std.specs.Str.{IsUtf8, IsCharBoundary}
 use Rattle.json_text.specs.Grammar.{is_blank, AreBlanks, print}
 use Rattle.json_text.specs.Texts.{IsText, levels}
 use Rattle.json_text.specs.Trimmed.{glue, content, skip_blanks}
-use Rattle.json_text.specs.Nodes.{IsNode, StandsIn, Spells}
-use Rattle.json_text.proofs.Prints.{Kept, Trims, kept_is, kept_app, kept_firm, content_blank, skip_app, value_kept, value_front, value_front_apart}
+use Rattle.json_text.specs.Nodes.{IsNode, StandsIn}
+use Rattle.json_text.proofs.Prints.{Kept, kept_is, kept_app, kept_firm, content_blank, skip_app, value_kept, value_front, value_front_apart}
 
 pub blank_ascii : (c : ℕ) → is_blank c ≡ true → c < 128
 blank_ascii c h = grind (arith, nat_tests)

@@ -7,7 +7,7 @@ use Rattle.json_text.specs.declared.machine.Mode.{Mode}
 use Rattle.json_text.specs.declared.machine.Mode.TheVariants.{ValueDue, ElementDue, FirstNameDue, Ended}
 use Rattle.json_text.specs.declared.machine.Move.{Move}
 use Rattle.json_text.specs.declared.machine.Move.TheVariants.{To, OpenArray, OpenObject, Close, Refuse}
-use Rattle.json_text.proofs.Follows.{After, ValueNext, Follows, FollowsMove}
+use Rattle.json_text.proofs.Follows.{ValueNext, Follows, FollowsMove}
 use Rattle.json_text.proofs.Steps.{step_forth, step_back}
 use Rattle.json_text.proofs.Ends.{end_back, end_forth, Way, way}
 

@@ -1,15 +1,15 @@
 -- The element that comes next.
-use Rattle.std.proofs.Common.{◌≡◌, ◌≢◌, ℕ, zero, suc, ◌+◌, ◌-◌, ◌<◌, ◌≤◌, Bool, true, false, cond, ◌||◌, ◌&&◌, ◌==◌, nat_lt, List, [], ◌∷◌, ◌++◌, length, take, drop, get_or, lit<, add-one, drop-cons, length-drop, length-append, refl, sym, ◌∙◌, ap, subst, arith}
-use Rattle.std.specs.Prelude.{slice_range, slice_get, Option, Some, None}
+use Rattle.std.proofs.Common.{◌≡◌, ℕ, zero, suc, ◌+◌, ◌-◌, ◌<◌, ◌≤◌, Bool, true, false, cond, ◌||◌, ◌==◌, List, [], ◌∷◌, ◌++◌, length, take, drop, get_or, lit<, add-one, drop-cons, length-drop, length-append, refl, sym, ◌∙◌, ap, subst, arith}
+use Rattle.std.specs.Prelude.{slice_range, slice_get, Some}
 use Rattle.std.proofs.lemmas.Bool.Decides.{nat_tests}
 use Rattle.std.proofs.lemmas.Str.{IsCharBoundary-before_ascii}
 use Rattle.std.specs.Str.{IsCharBoundary}
 use Rattle.std.proofs.Math.Bridge.{le_prop}
 use Rattle.std.proofs.Math.Logic.{∥∥₁_elim, ∥∥₁_map}
-use Rattle.json_text.specs.Grammar.{Json, null, truth, number, string, empty_array, array, empty_object, object, Element, element, Elements, no_elements, more_elements, Member, member, Members, no_members, more_members, Number, unsigned, negative, Int, zero_int, nonzero_int, print_number, IsNumber, print, print_element, print_elements, IsValue, IsElement, AreElements, IsMember, AreMembers, AreBlanks, is_blank, is_nonzero_digit}
+use Rattle.json_text.specs.Grammar.{Json, null, truth, number, string, empty_array, array, empty_object, object, Element, element, Elements, no_elements, more_elements, Member, member, Members, no_members, more_members, Number, unsigned, negative, zero_int, nonzero_int, print_number, IsNumber, print, print_element, print_elements, IsValue, IsElement, AreElements, IsMember, AreMembers, AreBlanks, is_nonzero_digit}
 use Rattle.json_text.specs.Texts.{levels}
 use Rattle.json_text.specs.Trimmed.{skip_blanks}
-use Rattle.json_text.specs.Skipped.{value_rest, is_stop, is_close}
+use Rattle.json_text.specs.Skipped.{value_rest, is_close}
 use Rattle.json_text.specs.Nodes.{IsNode, Spells}
 use Rattle.json_text.specs.Walks.{Placed, items_from, elements_of, Cursor, Ahead, due, over, IsOver, at_end, at_bracket, IsFirst, Split, comma_place, IsWalk, IsAt, walk_start}
 use Rattle.json_text.proofs.Prints.{skip_app, value_front, value_front_apart}

@@ -1,6 +1,6 @@
 -- JSON (RFC 8259, sections 2 to 7): trees, their spelling and which of them are valid. A tree keeps its blanks and its tokens
 -- as they are spelled. The bytes are UTF-8 as a whole, so the grammar is told over bytes.
-use Rattle.std.specs.Prelude.{◌≡◌, ℕ, suc, ◌<◌, ◌⊎◌, Bool, true, false, ◌||◌, ◌&&◌, nat_le, ◌==◌, List, [], ◌∷◌, ◌++◌, IsTrue}
+use Rattle.std.specs.Prelude.{◌≡◌, ℕ, suc, ◌<◌, Bool, true, false, ◌||◌, ◌&&◌, nat_le, ◌==◌, List, [], ◌∷◌, ◌++◌, IsTrue}
 use Rattle.text_view.specs.JsonString.{Piece, ArePieces, print_pieces}
 
 -- ws = *( %x20 / %x09 / %x0A / %x0D )

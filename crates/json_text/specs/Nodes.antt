@@ -1,9 +1,9 @@
 -- What a checked value is, and the walks over its tree.
-use Rattle.std.specs.Prelude.{◌≡◌, ℕ, ◌⊎◌, Bool, true, false, List, [], ◌∷◌, ◌++◌, Option, None, Some, IfSome, if◌then◌else◌}
+use Rattle.std.specs.Prelude.{◌≡◌, ℕ, true, false, List, [], ◌∷◌, ◌++◌, Option, None, Some}
 use Rattle.std.specs.Str.{chars, IsUtf8, IsValidUpTo}
 use Rattle.text_view.specs.JsonString.{unescaped_text}
-use Rattle.json_text.specs.Grammar.{Json, null, truth, number, string, empty_array, array, empty_object, object, Element, element, Elements, no_elements, more_elements, Member, member, Members, no_members, more_members, print, IsValue, AreBlanks, is_blank}
-use Rattle.json_text.specs.Texts.{levels, IsText, IsParsingFault, IsTooDeep}
+use Rattle.json_text.specs.Grammar.{Json, null, truth, number, string, empty_array, array, empty_object, object, print, IsValue, AreBlanks}
+use Rattle.json_text.specs.Texts.{levels, IsParsingFault, IsTooDeep}
 use Rattle.json_text.specs.Machine.{class}
 use Rattle.json_text.specs.declared.bytes.Class.{Class}
 use Rattle.json_text.specs.declared.bytes.Class.TheVariants.{Quote, ArrayBegin, ObjectBegin, LetterN, LetterT, LetterF}

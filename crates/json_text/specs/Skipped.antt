@@ -1,5 +1,5 @@
 -- What a scan that knows the bytes for valid leaves: strings, brackets and tokens are passed over without a look inside.
-use Rattle.std.specs.Prelude.{ℕ, zero, suc, Bool, true, false, ◌||◌, ◌==◌, not, List, [], ◌∷◌, if◌then◌else◌}
+use Rattle.std.specs.Prelude.{ℕ, zero, suc, Bool, true, false, ◌||◌, ◌==◌, List, [], ◌∷◌, if◌then◌else◌}
 use Rattle.json_text.specs.Grammar.{is_blank}
 
 -- behind the closing quotation mark; true behind a reverse solidus

@@ -1,5 +1,5 @@
 -- JSON texts, and where bytes stop being one.
-use Rattle.std.specs.Prelude.{◌≡◌, ℕ, ◌+◌, ◌<◌, ◌⊎◌, List, ◌++◌, length, take, slice_index}
+use Rattle.std.specs.Prelude.{◌≡◌, ℕ, ◌+◌, ◌<◌, List, ◌++◌, length, take}
 use Rattle.json_text.specs.Grammar.{Json, print, IsValue, AreBlanks}
 
 -- JSON-text = ws value ws, with at most `limit` brackets open at once

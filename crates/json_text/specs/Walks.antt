@@ -1,8 +1,8 @@
 -- The elements of an array in order, each with its place, and a walk over them.
-use Rattle.std.specs.Prelude.{◌≡◌, ℕ, ◌+◌, ◌≤◌, List, [], ◌∷◌, ◌++◌, length, drop, Option, None, Some, slice_get, slice_index, slice_range, nat_lt, ◌==◌, ◌&&◌, if◌then◌else◌}
+use Rattle.std.specs.Prelude.{◌≡◌, ℕ, ◌+◌, ◌≤◌, List, [], ◌∷◌, ◌++◌, length, drop, Option, None, Some, slice_index, slice_range, nat_lt, ◌==◌, ◌&&◌, if◌then◌else◌}
 use Rattle.std.specs.Str.{IsCharBoundary}
 use Rattle.json_text.specs.Nodes.{IsNode}
-use Rattle.json_text.specs.Grammar.{Json, null, truth, number, string, empty_array, array, empty_object, object, Element, element, Elements, no_elements, more_elements, print, print_element, print_elements, IsElement, AreElements, AreBlanks}
+use Rattle.json_text.specs.Grammar.{Json, array, Element, element, Elements, no_elements, more_elements, print, print_element, print_elements, IsElement, AreElements, AreBlanks}
 use Rattle.json_text.specs.Texts.{levels}
 
 -- a value, and the place of its first byte

@@ -9,6 +9,8 @@ mod machine;
 mod nest;
 mod node;
 mod skip;
+#[cfg(test)]
+mod tests;
 mod trim;
 
 pub use crate::checking::{JsonCode, JsonFault, check};

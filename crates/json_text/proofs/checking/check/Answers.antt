@@ -1,4 +1,4 @@
-use Rattle.std.proofs.Common.{◌∙◌, ap, subst}
+use Rattle.std.proofs.Common.{subst}
 use Rattle.std.specs.Str.{IsUtf8}
 use Rattle.json_text.proofs.Checks.{is_node, stands, parsing, deep}
 use Rattle.json_text.proofs.checking.check.Goals as goal

@@ -1,4 +1,4 @@
-use Rattle.std.proofs.Common.{arith, drop, ◌≡◌}
+use Rattle.std.proofs.Common.{arith, ◌≡◌}
 use Rattle.json_text.specs.Walks.{elements_of}
 use Rattle.json_text.proofs.Walking.{past_end, goes_on, first_is_at}
 use Rattle.json_text.proofs.node.JsonNode.element.Goals as goal

@@ -1,4 +1,4 @@
-use Rattle.std.proofs.Common.{sym, subst, ◌∙◌, arith, ◌≡◌, get_or}
+use Rattle.std.proofs.Common.{sym, subst}
 use Rattle.json_text.specs.Nodes.{Spells}
 use Rattle.json_text.proofs.Quoted.{short_none, other_none, quoted_text, begins, ends}
 use Rattle.json_text.proofs.node.JsonNode.text.Goals as goal
