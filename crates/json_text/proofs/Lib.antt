@@ -1,0 +1,14 @@
+pub mod Classes
+pub mod Strings
+pub mod Numbers
+pub mod Follows
+pub mod Steps
+pub mod Ends
+pub mod Verdicts
+pub mod Nests
+pub mod Prints
+pub mod Trims
+pub mod Checks
+pub mod Skips
+pub mod Walking
+pub mod Quoted

@@ -1,0 +1,18 @@
+//! A JSON text is checked once, in one pass without recursion and memory, and its nodes are slices of it that are walked by scans.
+#![tactic(auto)]
+
+mod bytes;
+mod checking;
+mod elements;
+mod judge;
+mod machine;
+mod nest;
+mod node;
+mod skip;
+#[cfg(test)]
+mod tests;
+mod trim;
+
+pub use crate::checking::{JsonCode, JsonFault, check};
+pub use crate::elements::Elements;
+pub use crate::node::{JsonNode, Kind};
