@@ -1,0 +1,11 @@
+//! The query that a text spells, by the grammar of S3 Select, or the first fault of the text and its place.
+#![tactic(auto)]
+
+mod error;
+mod tree;
+
+pub use error::{ParseError, SqlCode, SqlError};
+pub use tree::{
+    Agg, Arm, CastTarget, CompareOp, DatePart, Expr, Item, Name, PathStep, ProdOp, ProdPart, Query,
+    Selection, Step, SumOp, SumPart, Total,
+};
