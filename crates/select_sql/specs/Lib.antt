@@ -1,2 +1,4 @@
 pub mod Expressions
+pub mod Faults
 pub mod Marks
+pub mod Queries
