@@ -1,4 +1,6 @@
 pub mod Expressions
 pub mod Faults
+pub mod Forms
 pub mod Marks
 pub mod Queries
+pub mod Readers
