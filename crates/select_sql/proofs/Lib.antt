@@ -1,3 +1,4 @@
 pub mod Combining
 pub mod Forms
+pub mod PartReads
 pub mod Regrouping

@@ -165,12 +165,16 @@ abbrev pub side_or_both : Option Side → Side
 side_or_both None = side.Both
 side_or_both (Some s) = s
 
+-- a token that is an expression
+abbrev pub literal : (Class → Bool) → (Symbol → Expr) → Counting Expr
+literal test spelled = one_more too_many (λ s. if test (class s) then takes (spelled s) else refuses)
+
+-- whether the token stands there
+abbrev pub flag : Class → Counting Bool
+flag c n = either (made (λ s. (true, n)) (token (of c))) (nothing (false, n))
+
 -- ---- expressions, where these are the expressions between brackets
 module _ (room : Room) (inner : Counting Expr) where
-  -- a token that is an expression
-  abbrev pub literal : (Class → Bool) → (Symbol → Expr) → Counting Expr
-  literal test spelled = one_more too_many (λ s. if test (class s) then takes (spelled s) else refuses)
-
   -- a function's name, and what stands between its brackets
   abbrev pub call : Class → Counting Expr → Counting Expr
   call c arguments = after (one_more too_many (word c)) (λ s. enclosed room.here arguments)
@@ -255,10 +259,6 @@ module _ (room : Room) (inner : Counting Expr) where
 
   unfoldable pub primary : Counting Expr
   primary n = alternatives (λ form. primary_of form n)
-
-  -- whether the token stands there
-  abbrev pub flag : Class → Counting Bool
-  flag c n = either (made (λ s. (true, n)) (token (of c))) (nothing (false, n))
 
   -- unary = [-] primary
   unfoldable pub unary : Counting Expr

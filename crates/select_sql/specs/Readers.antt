@@ -105,10 +105,10 @@ abbrev pub begins_tail : Class → Bool
 begins_tail k.Is = true
 begins_tail c = begins_negatable c || is_compare_op c
 
-module _ (room : Room) (inner : Reader Expr) where
-  abbrev pub read_literal : (Class → Bool) → (Symbol → Expr) → Reader Expr
-  read_literal test spelled = read_one_more too_many (λ s. if test (class s) then takes (spelled s) else refuses)
+abbrev pub read_literal : (Class → Bool) → (Symbol → Expr) → Reader Expr
+read_literal test spelled = read_one_more too_many (λ s. if test (class s) then takes (spelled s) else refuses)
 
+module _ (room : Room) (inner : Reader Expr) where
   abbrev pub read_call : Class → Reader Expr → Reader Expr
   read_call c arguments = read_after (read_one_more too_many (word c)) (λ s. read_enclosed room.here arguments)
 
