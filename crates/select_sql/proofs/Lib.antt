@@ -1,4 +1,6 @@
 pub mod Combining
 pub mod Forms
 pub mod PartReads
+pub mod PrimaryReads
 pub mod Regrouping
+pub mod Sights
