@@ -22,7 +22,7 @@ use Rattle.grammar_rules.proofs.Terminals.{nothing_sight, Sees}
 use Rattle.grammar_rules.proofs.Reading.{Reads, token_sight, past_sight, before_sight, reads-nothing, reads-made, reads-past, reads-before, reads-sequence, reads_seen, reads-fault}
 use Rattle.grammar_rules.proofs.Choices.{either_sight, optional_sight, reads-either, reads-optional}
 use Rattle.grammar_rules.proofs.Many.{many_sight}
-use Rattle.grammar_rules.proofs.Counts.{CountedReads, seen_limited, reads_look, reads-plain, reads-one_more, reads-given, reads-both, reads-counted_past, reads-counted_before, reads-maybe}
+use Rattle.grammar_rules.proofs.Counts.{CountedReads, seen_limited, reads_look, reads-plain, reads-one_more, reads-given, reads-both, reads-after, reads-counted_past, reads-counted_before, reads-maybe}
 use Rattle.grammar_rules.proofs.CountedMany.{reads-chain, reads-list_of, reads-many_from, list_sight}
 use Rattle.grammar_rules.proofs.Begun.{begun_sight, reads-begun, reads-counted_begun}
 use Rattle.grammar_rules.proofs.Classes.{by_class, apart_in, distinct_in, seen_in, more_in, apart_by, distinct_by, more_by, reads_by}
@@ -160,3 +160,15 @@ pub in_brackets : {A : Type 0} (room : Bool) (G : Counting A) (s : Sight Class) 
 in_brackets room G s read wants off g n =
     reads-begun (opening room k.LeftParenthesis) (λ a. before G (of k.RightParenthesis) n) (λ a. before_sight (on s)) (λ a. read_counted_before read (of k.RightParenthesis) n) (of k.LeftParenthesis)
     (seen_opening room k.LeftParenthesis) (λ a. closed G s read k.RightParenthesis wants off g n) (λ x. false) (λ a x f. f)
+
+-- one after the other, where the first one's value tells the second
+pub in_turn : {A B : Type 0} (G : Counting A) (H : A → Counting B) (s t u : Sight Class) (read : Reader A) (next : A → Reader B) → apart_in all_classes s t ≡ true → seen_in all_classes (sequence_sight s t) u ≡ true → Countable G s read → ((a : A) → Countable (H a) t (next a)) → Countable (after G H) u (read_after read next)
+in_turn G H s t u read next off e g h =
+    written (after G H) (sequence_sight s t) u (read_after read next) e
+    (λ n. reads-after G H (on s) (on t) read next g h (apart_by class all_classes every s t off) n)
+
+-- [G] H
+pub in_perhaps : {A B : Type 0} (G : Counting A) (H : Option A → Counting B) (s t v u : Sight Class) (read : Reader A) (next : Option A → Reader B) → apart_in all_classes s t ≡ true → seen_in all_classes (sequence_sight s t) v ≡ true → distinct_in all_classes v t ≡ true → (v.null && t.null) ≡ false → v.null ≡ false → seen_in all_classes (either_sight v t) u ≡ true → Countable G s read → ((o : Option A) → Countable (H o) t (next o)) → Countable (perhaps G H) u (read_perhaps (λ x. v.first (class x)) read next)
+in_perhaps G H s t v u read next off e apart nulls wants f g h =
+    one_or_other (after G (λ a. H (Some a))) (H None) v t u (read_after read (λ a. next (Some a))) (next None) apart nulls wants f
+    (in_turn G (λ a. H (Some a)) s t v read (λ a. next (Some a)) off e g (λ a. h (Some a))) (h None)

@@ -1,4 +1,5 @@
 pub mod Combining
+pub mod FactoredCalls
 pub mod Forms
 pub mod PartReads
 pub mod PrimaryReads
