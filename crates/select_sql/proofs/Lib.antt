@@ -1,7 +1,9 @@
 pub mod Combining
+pub mod ExpressionReads
 pub mod FactoredCalls
 pub mod Forms
 pub mod PartReads
+pub mod Primaries
 pub mod PrimaryReads
 pub mod Regrouping
 pub mod Sights

@@ -55,12 +55,12 @@ module _ (room : Room) (inner : Counting Expr) (read : Reader Expr) (g : Countab
       behind_counted (word c) (λ t. enclosed room.here arguments) (is c) (λ d. false) (λ t. one (is k.LeftParenthesis)) (λ t. read_enclosed room.here next)
       (seen_word c) (λ t. refl) (λ t. in_brackets room.here arguments s next wants off h)
 
-  reads-simple_call : (c : Class) (node : Expr → Expr) → Countable (call room inner c (given node inner)) (one (is c)) (read_call room read c (read_given node read))
+  pub reads-simple_call : (c : Class) (node : Expr → Expr) → Countable (call room inner c (given node inner)) (one (is c)) (read_call room read c (read_given node read))
   unfolding same_class
   reads-simple_call c node = in_call c (given node inner) or_sight (read_given node read) refl refl (as_given node inner or_sight read g)
 
   -- CAST
-  reads-cast : Countable (cast room inner) (one (is k.Cast)) (read_call room read k.Cast (read_cast_rest room read))
+  pub reads-cast : Countable (cast room inner) (one (is k.Cast)) (read_call room read k.Cast (read_cast_rest room read))
   unfolding read_cast_rest same_class
   reads-cast =
       in_call k.Cast (given (λ p. e.Cast p.0 p.1) (both inner (past (of k.As) (plain (type_of room.deeper))))) (seen begins_expression (is k.LeftParenthesis)) (read_given (λ p. e.Cast p.0 p.1) (read_both read (read_counted_past (of k.As) (read_plain (read_type room.deeper))))) refl refl
@@ -69,7 +69,7 @@ module _ (room : Room) (inner : Counting Expr) (read : Reader Expr) (g : Countab
       (behind (is k.As) (plain (type_of room.deeper)) type_sight (read_plain (read_type room.deeper)) (plainly (type_of room.deeper) type_sight (read_type room.deeper) (reads-type room.deeper)))))
 
   -- ( or )
-  reads-group : Countable (group room inner) (one (is k.LeftParenthesis)) (read_group room read)
+  pub reads-group : Countable (group room inner) (one (is k.LeftParenthesis)) (read_group room read)
   unfolding read_group same_class
   reads-group =
       behind_counted (opening room.here k.LeftParenthesis) (λ t. before inner (of k.RightParenthesis)) (is k.LeftParenthesis) (λ d. false) (λ t. before_sight or_sight) (λ t. read_counted_before read (of k.RightParenthesis))
@@ -120,7 +120,7 @@ module _ (room : Room) (inner : Counting Expr) (read : Reader Expr) (g : Countab
       (maybe_so inner or_sight (or_none begins_expression or_sight.more) read refl refl g)
       (in_pair (chain (λ a rest. a ∷ rest) (arm room inner) (arm room inner)) (before (maybe (past (of k.Else) inner)) (of k.End)) arms_sight otherwise_sight (one (is k.When)) (read_arms room read) (read_otherwise room read) refl refl reads-arms reads-otherwise))
 
-  reads-case : Countable (case room inner) (one (is k.Case)) (read_case room read)
+  pub reads-case : Countable (case room inner) (one (is k.Case)) (read_case room read)
   unfolding read_case same_class
   reads-case =
       behind_counted (opening room.here k.Case) (λ t. case_rest room inner) (is k.Case) (λ d. false) (λ t. case_sight) (λ t. read_case_rest room read)
@@ -131,21 +131,21 @@ module _ (room : Room) (inner : Counting Expr) (read : Reader Expr) (g : Countab
   abbrev list_more : Class → Bool
   list_more c = is k.Comma c || or_sight.more c
 
-  reads-coalesce : Countable (coalesce room inner) (one (is k.CoalesceCalled)) (read_call room read k.CoalesceCalled (read_coalesce_rest room read))
+  pub reads-coalesce : Countable (coalesce room inner) (one (is k.CoalesceCalled)) (read_call room read k.CoalesceCalled (read_coalesce_rest room read))
   unfolding read_coalesce_rest same_class
   reads-coalesce =
       in_call k.CoalesceCalled (given e.Coalesce (listed inner)) (seen begins_expression list_more) (read_given e.Coalesce (read_listed read)) refl refl
       (as_given e.Coalesce (listed inner) (seen begins_expression list_more) (read_listed read)
       (in_chain (λ a rest. a ∷ rest) inner (past (of k.Comma) inner) or_sight (past_sight (is k.Comma) or_sight) (seen begins_expression list_more) read (read_counted_past (of k.Comma) read) refl refl refl refl g (behind_word k.Comma)))
 
-  reads-nullif : Countable (nullif room inner) (one (is k.NullifCalled)) (read_call room read k.NullifCalled (read_nullif_rest room read))
+  pub reads-nullif : Countable (nullif room inner) (one (is k.NullifCalled)) (read_call room read k.NullifCalled (read_nullif_rest room read))
   unfolding read_nullif_rest same_class
   reads-nullif =
       in_call k.NullifCalled (given (λ p. e.NullIf p.0 p.1) (both inner (past (of k.Comma) inner))) or_sight (read_given (λ p. e.NullIf p.0 p.1) (read_both read (read_counted_past (of k.Comma) read))) refl refl
       (as_given (λ p. e.NullIf p.0 p.1) (both inner (past (of k.Comma) inner)) or_sight (read_both read (read_counted_past (of k.Comma) read))
       (in_pair inner (past (of k.Comma) inner) or_sight (past_sight (is k.Comma) or_sight) or_sight read (read_counted_past (of k.Comma) read) refl refl g (behind_word k.Comma)))
 
-  reads-extract : Countable (extract room inner) (one (is k.ExtractCalled)) (read_call room read k.ExtractCalled (read_extract_rest room read))
+  pub reads-extract : Countable (extract room inner) (one (is k.ExtractCalled)) (read_call room read k.ExtractCalled (read_extract_rest room read))
   unfolding read_extract_rest same_class
   reads-extract =
       in_call k.ExtractCalled (given (λ p. e.Extract p.0 p.1) (both (plain (terminal (one_told stamp_part))) (past (of k.From) inner))) (seen (λ c. is_some (stamp_part c)) or_sight.more) (read_given (λ p. e.Extract p.0 p.1) (read_both (read_plain (read_terminal (one_told stamp_part))) (read_counted_past (of k.From) read))) refl refl
@@ -157,7 +157,7 @@ module _ (room : Room) (inner : Counting Expr) (read : Reader Expr) (g : Countab
   abbrev date_add_arguments : Counting (Expr × Expr)
   date_add_arguments = both inner (past (of k.Comma) inner)
 
-  reads-date_add : Countable (date_add room inner) (one (is k.DateAddCalled)) (read_call room read k.DateAddCalled (read_date_add_rest room read))
+  pub reads-date_add : Countable (date_add room inner) (one (is k.DateAddCalled)) (read_call room read k.DateAddCalled (read_date_add_rest room read))
   unfolding read_date_add_rest same_class
   reads-date_add =
       in_call k.DateAddCalled (given (λ p. e.DateAdd p.0 p.1.0 p.1.1) (both (plain (terminal (one_told date_part))) (past (of k.Comma) date_add_arguments))) (seen (λ c. is_some (date_part c)) or_sight.more) (read_given (λ p. e.DateAdd p.0 p.1.0 p.1.1) (read_both (read_plain (read_terminal (one_told date_part))) (read_counted_past (of k.Comma) (read_both read (read_counted_past (of k.Comma) read))))) refl refl
