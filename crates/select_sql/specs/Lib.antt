@@ -3,4 +3,5 @@ pub mod Faults
 pub mod Forms
 pub mod Marks
 pub mod Queries
+pub mod QueryReaders
 pub mod Readers

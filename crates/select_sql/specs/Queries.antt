@@ -16,7 +16,7 @@ use Rattle.select_sql.specs.declared.tree.Step.TheVariants as step
 use Rattle.grammar_rules.specs.Rules.{Rule, Verdict, takes, faults, refuses, told, terminal, token, nothing, made, begun, sequence, alternatives, either, optional, preceded_by, followed_by}
 use Rattle.grammar_rules.specs.Counted.{Counted, plain, given, both, after, past, before, maybe, many_from, chain, item as one_of_list, list_of}
 use Rattle.select_sql.specs.Marks.{Fault, unknown_function, aggregate_mixed, unsupported_type, too_many, class, of, name, digits, is_source, Form, unknown_call, exponent_form, form_of}
-use Rattle.select_sql.specs.Expressions.{Counting, enclosed, over_class, expression}
+use Rattle.select_sql.specs.Expressions.{Counting, enclosed, over_class, path_name, expression}
 
 -- ---- names
 
@@ -128,9 +128,9 @@ pub data Selected : Type 0 where
 abbrev pub items : Counting Selection
 items n = either (given selection.Rows rows n) (given selection.Totals totals n)
 
--- name . *
+-- name . *, of a name that isn't before `(`, since it is before `.`
 abbrev pub all_of_name : Rule Symbol Fault Name
-all_of_name = begun name (λ a. preceded_by (token (of k.Dot)) (preceded_by (token (of k.Star)) (nothing a)))
+all_of_name = begun path_name (λ a. preceded_by (token (of k.Dot)) (preceded_by (token (of k.Star)) (nothing a)))
 
 -- list = * | name . * | item {, item}
 unfoldable pub selection_list : Counting Selected
