@@ -51,7 +51,7 @@ reads-operator tell =
 
 -- ---- what the first token of a member past the limit is told
 
-seen_over_form : (room : Bool) (o : Option Form) → is_some (over_form room o) ≡ is_some o
+pub seen_over_form : (room : Bool) (o : Option Form) → is_some (over_form room o) ≡ is_some o
 seen_over_form room None = refl
 seen_over_form room (Some literal_text) = refl
 seen_over_form room (Some literal_number) = refl
@@ -76,7 +76,7 @@ seen_over_form room (Some extract_form) = refl
 seen_over_form room (Some date_add_form) = refl
 seen_over_form room (Some to_timestamp_form) = refl
 
-same_truth : (a b : Bool) → agree a b ≡ true → a ≡ b
+pub same_truth : (a b : Bool) → agree a b ≡ true → a ≡ b
 same_truth true true h = refl
 same_truth true false h = let p : false ≡ true = h in cc
 same_truth false true h = let p : false ≡ true = h in cc

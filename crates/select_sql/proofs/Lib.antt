@@ -2,8 +2,10 @@ pub mod Combining
 pub mod ExpressionReads
 pub mod FactoredCalls
 pub mod Forms
+pub mod ItemReads
 pub mod PartReads
 pub mod Primaries
 pub mod PrimaryReads
 pub mod Regrouping
 pub mod Sights
+pub mod SourceReads
