@@ -3,6 +3,7 @@ pub mod ExpressionReads
 pub mod FactoredCalls
 pub mod Forms
 pub mod ItemReads
+pub mod NamedAll
 pub mod PartReads
 pub mod Primaries
 pub mod PrimaryReads

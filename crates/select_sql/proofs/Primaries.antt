@@ -140,7 +140,7 @@ agree_back false false h q = q
 self_coded : (f : Form) → is_coded (form_code f) (Some f) ≡ true
 self_coded = elim [ literal_text ↦ refl | literal_number ↦ refl | truth ↦ refl | untruth ↦ refl | null_form ↦ refl | missing_form ↦ refl | path_form ↦ refl | unknown_call ↦ refl | exponent_form ↦ refl | cast_form ↦ refl | group_form ↦ refl | case_form ↦ refl | coalesce_form ↦ refl | nullif_form ↦ refl | char_length_form ↦ refl | lower_form ↦ refl | upper_form ↦ refl | substring_form ↦ refl | trim_form ↦ refl | extract_form ↦ refl | date_add_form ↦ refl | to_timestamp_form ↦ refl ]
 
-begun_by : (f : Form) (c : Class) → form_first f c ≡ true → form_of c ≡ Some f
+pub begun_by : (f : Form) (c : Class) → form_first f c ≡ true → form_of c ≡ Some f
 begun_by f c h = coded f (form_of c) (agree_there (form_first f c) (is_coded (form_code f) (form_of c)) (every (tells f) (told_all f) c) h)
 
 begins_so : (f : Form) (c : Class) → form_of c ≡ Some f → form_first f c ≡ true
