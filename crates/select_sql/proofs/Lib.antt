@@ -7,6 +7,7 @@ pub mod NamedAll
 pub mod PartReads
 pub mod Primaries
 pub mod PrimaryReads
+pub mod QueryReads
 pub mod Regrouping
 pub mod Sights
 pub mod SourceReads

@@ -180,5 +180,223 @@ module _ (n : ℕ) (some : n ≡ 0 → ⊥) (s d t : Symbol) (r : List Symbol) (
   unfolding read_items
   items_fails = rw (begins_it (class s) named, rows_fails) refl
 
-  refused : RefusedAt (items n) ts (t ∷ r)
+  pub refused : RefusedAt (items n) ts (t ∷ r)
   refused = subst (λ o. Right (items n) ts o) items_fails ((reads-items n).right ts)
+
+-- ---- fronts of items
+
+dot_token : Symbol
+dot_token = record { at = 0; token = punctuation k.Dot }
+
+star_token : Symbol
+star_token = record { at = 0; token = punctuation k.Star }
+
+is_dot : of k.Dot dot_token ≡ true
+unfolding same_class dot_token
+is_dot = refl
+
+is_star : of k.Star star_token ≡ true
+unfolding same_class star_token
+is_star = refl
+
+-- two lists of three, of which the first ends before the third of the other
+two_before : (pre : List Symbol) (s d t : Symbol) → s ∷ d ∷ t ∷ [] ≡ pre ++ t ∷ [] → pre ≡ s ∷ d ∷ []
+two_before [] s d t h = let p : d ∷ t ∷ [] ≡ [] = cc in absurd (cons_not_nil (d ∷ []) t [] p)
+two_before (a ∷ []) s d t h = let p : t ∷ [] ≡ [] = cc in absurd (cons_not_nil [] t [] p)
+two_before (a ∷ b ∷ []) s d t h = cc
+two_before (a ∷ b ∷ c ∷ pre) s d t h = let p : pre ++ t ∷ [] ≡ [] = cc in absurd (cons_not_nil pre t [] p)
+
+module _ (n : ℕ) (some : n ≡ 0 → ⊥) where
+  front_of_dot : (s d : Symbol) → is_path_name (class s) ≡ true → of k.Dot d ≡ true → (items n).Front fits (s ∷ d ∷ [])
+  front_of_dot s d named dot =
+      let w = refused n some s d star_token [] named dot is_star in
+      subst (λ l. (items n).Front fits l) (two_before w.pre s d star_token w.is) w.front
+
+  front_of_name : (s : Symbol) → is_path_name (class s) ≡ true → (items n).Front fits (s ∷ [])
+  front_of_name s named = (reads-items n).clear.fronts.closed fits (s ∷ []) dot_token [] (front_of_dot s dot_token named is_dot)
+
+  own_text : (s d t : Symbol) (m : Last Fault) (r : List Symbol) → is_path_name (class s) ≡ true → of k.Dot d ≡ true → of k.Star t ≡ true → (items n).Front m (s ∷ d ∷ t ∷ r) → ⊥
+  own_text s d t m r named dot star f = refused_no_front (items n) (s ∷ d ∷ t ∷ r) t r m (refused n some s d t r named dot star) f
+
+-- ---- the texts and fronts of all
+
+abbrev taken_if : {A : Type 0} → Bool → A → Verdict Fault A
+taken_if b a = if b then takes a else refuses
+
+took : (b : Bool) (a c : Name) → taken_if b a ≡ takes c → b ≡ true
+took true a c h = refl
+took false a c h = cc
+
+no_fault : (b : Bool) (a : Name) (j : Fault) → taken_if b a ≡ faults j → ⊥
+no_fault true a j h = cc
+no_fault false a j h = cc
+
+abbrev starred : Name → Rule Symbol Fault Name
+starred a = preceded_by (token (of k.Star)) (nothing a)
+
+abbrev dotted : Name → Rule Symbol Fault Name
+dotted a = preceded_by (token (of k.Dot)) (starred a)
+
+reads-starred : (a : Name) → Reads (starred a) (past_sight (of k.Star) nothing_sight) (read_past (of k.Star) (λ ts. found a ts))
+reads-starred a = reads-past (of k.Star) (nothing a) nothing_sight (λ ts. found a ts) (reads-nothing a)
+
+reads-dotted : (a : Name) → Reads (dotted a) (past_sight (of k.Dot) (past_sight (of k.Star) nothing_sight)) (read_past (of k.Dot) (read_past (of k.Star) (λ ts. found a ts)))
+reads-dotted a = reads-past (of k.Dot) (starred a) (past_sight (of k.Star) nothing_sight) (read_past (of k.Star) (λ ts. found a ts)) (reads-starred a)
+
+reads-all_of : Readable all_of_name (one is_path_name) read_all_of_name
+unfolding read_all_of_name
+reads-all_of =
+    reads-begun path_name dotted (λ a. past_sight (of k.Dot) (past_sight (of k.Star) nothing_sight)) (λ a. read_past (of k.Dot) (read_past (of k.Star) (λ ts. found a ts)))
+    (begins is_path_name) (seen_those is_path_name name_of) reads-dotted (λ x. false) (λ a x h. h)
+
+-- a front of all is one of four
+data AllFront (last : Last Fault) (ts : List Symbol) : Type 0 where
+  front0 : last ≡ fits → ts ≡ [] → AllFront last ts
+  front1 : last ≡ fits → (s : Symbol) → is_path_name (class s) ≡ true → ts ≡ s ∷ [] → AllFront last ts
+  front2 : last ≡ fits → (s d : Symbol) → is_path_name (class s) ≡ true → of k.Dot d ≡ true → ts ≡ s ∷ d ∷ [] → AllFront last ts
+  front3 : last ≡ fits → (s d t : Symbol) → is_path_name (class s) ≡ true → of k.Dot d ≡ true → of k.Star t ≡ true → ts ≡ s ∷ d ∷ t ∷ [] → AllFront last ts
+
+module _ (a : Name) (last : Last Fault) (ts : List Symbol) (s : Symbol) (named : is_path_name (class s) ≡ true) where
+  front_starred : (d : Symbol) → of k.Dot d ≡ true → (r : List Symbol) → ts ≡ s ∷ d ∷ r → ((last ≡ fits) × (r ≡ [])) ⊎ ((t : Symbol) × (q : List Symbol) × (r ≡ t ∷ q) × (of k.Star t ≡ true) × (nothing {T = Symbol} {K = Fault} a).Front last q) → AllFront last ts
+  front_starred d dot r h (inl f) = front2 f.0 s d named dot (let g = f.1 in cc)
+  front_starred d dot r h (inr f) = front3 f.4.0 s d f.0 named dot f.3 (let q = f.4.1 in let g = f.2 in cc)
+
+  front_dotted : (r : List Symbol) → ts ≡ s ∷ r → ((last ≡ fits) × (r ≡ [])) ⊎ ((d : Symbol) × (q : List Symbol) × (r ≡ d ∷ q) × (of k.Dot d ≡ true) × (starred a).Front last q) → AllFront last ts
+  front_dotted r h (inl f) = front1 f.0 s named (let g = f.1 in cc)
+  front_dotted r h (inr f) =
+      front_starred f.0 f.3 f.1 (let g = f.2 in cc) (past_front (of k.Star) (nothing a) (reads-nothing {T = Symbol} {K = Fault} a).clear.fronts last f.1 f.4)
+
+one_named : (last : Last Fault) (s : Symbol) → FrontOfOne path_name last (s ∷ []) → AllFront last (s ∷ [])
+one_named fits s f = front1 refl s (took (is_path_name (class s)) (name_of s.token) f.0 f.1) refl
+one_named (faulty j) s f = absurd (no_fault (is_path_name (class s)) (name_of s.token) j f)
+
+all_front_cases : (last : Last Fault) (ts : List Symbol) → FrontBehind path_name dotted last ts → AllFront last ts
+all_front_cases last ts (no_symbol h f) = front0 h f
+all_front_cases last ts (one_symbol s h f) = subst (λ l. AllFront last l) (sym h) (one_named last s f)
+all_front_cases last ts (front_behind s a r h f v) =
+    front_dotted a last ts s (took (is_path_name (class s)) (name_of s.token) a f) r h (past_front (of k.Dot) (starred a) (reads-starred a).clear.fronts last r v)
+
+all_front : (last : Last Fault) (ts : List Symbol) → all_of_name.Front last ts → AllFront last ts
+all_front last ts f = all_front_cases last ts (begun_front path_name dotted last ts f)
+
+-- a text of all
+record AllText (ts : List Symbol) : Type 0 where
+  s : Symbol
+  d : Symbol
+  t : Symbol
+  named : is_path_name (class s) ≡ true
+  dot : of k.Dot d ≡ true
+  star : of k.Star t ≡ true
+  is_it : ts ≡ s ∷ d ∷ t ∷ []
+
+all_text_cases : (b : Name) (ts : List Symbol) → TextBehind path_name dotted b ts → AllText ts
+all_text_cases b ts (text_behind s a r h f v) =
+    let x = past_text (of k.Dot) (starred a) b r v in
+    let y = past_text (of k.Star) (nothing a) b x.1 x.4 in
+    let p = x.2 in
+    let q = y.2 in
+    let z = y.4.1 in
+    record { s = s; d = x.0; t = y.0; named = took (is_path_name (class s)) (name_of s.token) a f; dot = x.3; star = y.3; is_it = cc }
+
+all_text : (b : Name) (ts : List Symbol) → all_of_name.Spells b ts → AllText ts
+all_text b ts w = all_text_cases b ts (begun_text path_name dotted b ts w)
+
+takes_it : (b : Bool) (a : Name) → b ≡ true → taken_if b a ≡ takes a
+takes_it b a h = rw h refl
+
+takes_symbol : (b : Bool) (s : Symbol) → b ≡ true → taken_if b s ≡ takes s
+takes_symbol b s h = rw h refl
+
+text_of_all : (s d t : Symbol) → is_path_name (class s) ≡ true → of k.Dot d ≡ true → of k.Star t ≡ true → all_of_name.Spells (name_of s.token) (s ∷ d ∷ t ∷ [])
+text_of_all s d t named dot star = record {
+  value = name_of s.token;
+  left = s ∷ [];
+  right = d ∷ t ∷ [];
+  joined = refl;
+  whole = takes_it (is_path_name (class s)) (name_of s.token) named;
+  after = record {
+    value = d; left = d ∷ []; right = t ∷ []; joined = refl;
+    whole = takes_symbol (of k.Dot d) d dot;
+    after = record { value = t; left = t ∷ []; right = []; joined = refl; whole = takes_symbol (of k.Star t) t star; after = (refl, refl) };
+  };
+}
+
+not_faulty : (j : Fault) (ts : List Symbol) → AllFront (faulty j) ts → ⊥
+not_faulty j ts (front0 l h) = cc
+not_faulty j ts (front1 l s a h) = cc
+not_faulty j ts (front2 l s d a b h) = cc
+not_faulty j ts (front3 l s d t a b c h) = cc
+
+ends_there : (pre : List Symbol) (t x y z : Symbol) → pre ++ t ∷ [] ≡ x ∷ y ∷ z ∷ [] → t ≡ z
+ends_there [] t x y z h = cc
+ends_there (p ∷ []) t x y z h = cc
+ends_there (p ∷ q ∷ []) t x y z h = cc
+ends_there (p ∷ q ∷ s ∷ pre) t x y z h = let n : pre ++ t ∷ [] ≡ [] = cc in absurd (cons_not_nil pre t [] n)
+
+-- ---- what is selected
+
+module _ (n : ℕ) (some : n ≡ 0 → ⊥) where
+  abbrev listed_items : Rule Symbol Fault (Selected × ℕ)
+  listed_items = given selected items n
+
+  abbrev named_all : Rule Symbol Fault (Selected × ℕ)
+  named_all = plain (made everything_of all_of_name) n
+
+  shared_cases : (ts : List Symbol) → AllFront fits ts → listed_items.Front fits ts ⊎ ((a : Selected × ℕ) × named_all.Spells a ts)
+  shared_cases ts (front0 l h) = inl (rw h (reads-items n).clear.fronts.nil)
+  shared_cases ts (front1 l s a h) = inl (rw h (front_of_name n some s a))
+  shared_cases ts (front2 l s d a b h) = inl (rw h (front_of_dot n some s d a b))
+  shared_cases ts (front3 l s d t a b c h) =
+      inr ((everything_of (name_of s.token), n), (everything_of (name_of s.token), refl, (name_of s.token, refl, rw h (text_of_all s d t a b c))))
+
+  own_cases : (pre : List Symbol) (m : Last Fault) (r : List Symbol) → AllText pre → (items n).Front m (pre ++ r) → ⊥
+  own_cases pre m r x f = own_text n some x.s x.d x.t m r x.named x.dot x.star (subst (λ l. (items n).Front m (l ++ r)) x.is_it f)
+
+  star_ends : (pre : List Symbol) (t : Symbol) → AllText (pre ++ t ∷ []) → of k.Star t ≡ true
+  star_ends pre t x = rw (ends_there pre t x.s x.d x.t x.is_it) x.star
+
+  ahead : Ahead listed_items named_all (of k.Star)
+  ahead = record {
+    shared = λ ts f. shared_cases ts (all_front fits ts f);
+    own = λ a pre m r w f. own_cases pre m r (all_text w.2.0 pre w.2.2) f;
+    faultless = λ j ts f. not_faulty j ts (all_front (faulty j) ts f);
+    ends = λ a b pre t w v. star_ends pre t (all_text v.2.0 (pre ++ t ∷ []) v.2.2);
+  }
+
+  abbrev named_sight : Sight Class
+  named_sight = one is_path_name
+
+  abbrev either_more : Class → Bool
+  either_more c = is k.Star c || items_sight.more c
+
+  abbrev items_or_all : Sight Class
+  items_or_all = seen items_sight.first either_more
+
+  abbrev read_named : List Symbol → Outcome Symbol Fault (Selected × ℕ)
+  read_named = read_plain (λ ts. read_made everything_of (read_all_of_name ts)) n
+
+  reads-ahead_items : Readable (either listed_items named_all) items_or_all (read_ahead (read_given selected read_items n) read_named)
+  unfolding same_class
+  reads-ahead_items =
+      reads_by class all_classes every (ahead_sight items_sight named_sight (is k.Star)) (either listed_items named_all) items_or_all (read_ahead (read_given selected read_items n) read_named) refl
+      (reads-ahead listed_items named_all (on items_sight) (on named_sight) (of k.Star) (read_given selected read_items n) read_named
+      (as_given selected items items_sight read_items reads-items n)
+      (plainly (made everything_of all_of_name) named_sight (λ ts. read_made everything_of (read_all_of_name ts)) (reads-made everything_of all_of_name (on named_sight) read_all_of_name reads-all_of) n)
+      ahead refl)
+
+  abbrev star_rule : Counting Selected
+  star_rule = plain (made (λ s. everything) (token (of k.Star)))
+
+  abbrev list_first : Class → Bool
+  list_first c = is k.Star c || items_sight.first c
+
+  pub reads-list : Readable (selection_list n) (seen (λ c. is k.Star c || items_sight.first c) (λ c. is k.Star c || items_sight.more c)) (read_list n)
+  unfolding selection_list read_list same_class
+  reads-list =
+      reads_by class all_classes every (either_sight (one (is k.Star)) items_or_all) (either (star_rule n) (either listed_items named_all)) (seen list_first either_more)
+      (read_either (of k.Star) (read_plain (λ ts. read_made (λ s. everything) (read_terminal (word k.Star) ts)) n) (read_ahead (read_given selected read_items n) read_named)) refl
+      (reads-either (star_rule n) (either listed_items named_all) (on (one (is k.Star))) (on items_or_all)
+      (read_plain (λ ts. read_made (λ s. everything) (read_terminal (word k.Star) ts)) n) (read_ahead (read_given selected read_items n) read_named)
+      (plainly (made (λ s. everything) (token (of k.Star))) (one (is k.Star)) (λ ts. read_made (λ s. everything) (read_terminal (word k.Star) ts))
+      (reads-made (λ s. everything) (token (of k.Star)) (on (one (is k.Star))) (read_terminal (word k.Star)) (reads_terminal (word k.Star) (is k.Star) (seen_word k.Star))) n)
+      reads-ahead_items (distinct_by class all_classes every (one (is k.Star)) items_or_all refl) refl)
