@@ -4,6 +4,7 @@ pub mod FactoredCalls
 pub mod Forms
 pub mod ItemReads
 pub mod NamedAll
+pub mod OneParse
 pub mod PartReads
 pub mod Primaries
 pub mod PrimaryReads

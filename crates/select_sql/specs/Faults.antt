@@ -98,3 +98,11 @@ pub data FaultOf (text : List ℕ) (error : SqlError) : Type 0 where
 abbrev pub Parses : List ℕ → Result Query SqlError → Type 0
 Parses text (Ok q) = Spells text q
 Parses text (Err error) = FaultOf text error
+
+-- each text is a query or has a fault
+abbrev pub EachParses : Type 0
+EachParses = (text : List ℕ) → (r : Result Query SqlError) × Parses text r
+
+-- and it is one query or has one fault
+abbrev pub OneParse : Type 0
+OneParse = (text : List ℕ) (r s : Result Query SqlError) → Parses text r → Parses text s → r ≡ s

@@ -2,9 +2,11 @@
 #![tactic(auto)]
 
 mod error;
+mod laws;
 mod tree;
 
 pub use error::{ParseError, SqlCode, SqlError};
+pub use laws::texts_have_one_parse;
 pub use tree::{
     Agg, Arm, CastTarget, CompareOp, DatePart, Expr, Item, Name, PathStep, ProdOp, ProdPart, Query,
     Selection, Step, SumOp, SumPart, Total,
