@@ -12,3 +12,4 @@ pub mod QueryReads
 pub mod Regrouping
 pub mod Sights
 pub mod SourceReads
+pub mod TokenSteps

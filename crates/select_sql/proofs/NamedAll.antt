@@ -315,7 +315,10 @@ text_of_all s d t named dot star = record {
   joined = refl;
   whole = takes_it (is_path_name (class s)) (name_of s.token) named;
   after = record {
-    value = d; left = d ∷ []; right = t ∷ []; joined = refl;
+    value = d;
+    left = d ∷ [];
+    right = t ∷ [];
+    joined = refl;
     whole = takes_symbol (of k.Dot d) d dot;
     after = record { value = t; left = t ∷ []; right = []; joined = refl; whole = takes_symbol (of k.Star t) t star; after = (refl, refl) };
   };

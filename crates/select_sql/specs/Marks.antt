@@ -110,12 +110,12 @@ or_nothing None = []
 or_nothing (Some bytes) = bytes
 
 -- a name: a word as it stands, or what stands between the quotes of a quoted one
-abbrev pub name_by : Option (List ℕ) → Token → Name
-name_by None t = record { text = or_nothing (word_of t); quoted = false }
-name_by (Some raw) t = record { text = undoubled 34 raw; quoted = true }
+abbrev pub name_by : Option (List ℕ) → Option (List ℕ) → Name
+name_by None word = record { text = or_nothing word; quoted = false }
+name_by (Some raw) word = record { text = undoubled 34 raw; quoted = true }
 
 abbrev pub name_of : Token → Name
-name_of t = name_by (quoted_of t) t
+name_of t = name_by (quoted_of t) (word_of t)
 
 -- the bytes of a text
 abbrev pub text_in : Token → List ℕ

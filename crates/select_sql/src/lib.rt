@@ -3,6 +3,8 @@
 
 mod error;
 mod laws;
+mod stop;
+mod tokens;
 mod tree;
 
 pub use error::{ParseError, SqlCode, SqlError};
