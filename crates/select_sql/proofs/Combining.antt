@@ -1,6 +1,6 @@
 -- How the rules over tokens and their readers are put together: one law a form, with lookaheads over the classes of tokens, whose
 -- side conditions are tests over all classes.
-use Rattle.std.proofs.Common.{◌≡◌, ℕ, ◌-◌, nat_lt, ◌||◌, ◌&&◌, Bool, true, false, not, List, [], ◌∷◌, Option, Some, None, is_some, refl, ◌∙◌, if◌then◌else◌, pos, negsuc}
+use Rattle.std.proofs.Common.{◌≡◌, ℕ, ◌-◌, nat_lt, nat_le, ◌||◌, ◌&&◌, Bool, true, false, not, List, [], ◌∷◌, Option, Some, None, is_some, refl, ◌∙◌, if◌then◌else◌, pos, negsuc}
 use Rattle.std.specs.Prelude.{chars}
 use Rattle.std.specs.List.{list_all}
 use Rattle.sql_tokens.specs.declared.class.Class.{Class}
@@ -26,7 +26,7 @@ use Rattle.grammar_rules.proofs.Counts.{CountedReads, seen_limited, reads_look, 
 use Rattle.grammar_rules.proofs.CountedMany.{reads-chain, reads-list_of, reads-many_from, list_sight}
 use Rattle.grammar_rules.proofs.Begun.{begun_sight, reads-begun, reads-counted_begun}
 use Rattle.grammar_rules.proofs.Classes.{by_class, apart_in, distinct_in, seen_in, more_in, apart_by, distinct_by, more_by, reads_by}
-use Rattle.select_sql.specs.Marks.{Fault, wrong_number, bad_escape, too_deep, too_many, class, of, those, whole_within, digits_within, escape_by, escape, text_in, number_in, told_by, one_told}
+use Rattle.select_sql.specs.Marks.{Fault, wrong_number, bad_escape, too_deep, too_many, class, of, those, whole_of, whole_within, digits_within, escape_by, escape, text_in, number_in, told_by, one_told}
 use Rattle.select_sql.specs.Expressions.{Counting, word, opening, enclosed, listed, perhaps}
 use Rattle.select_sql.specs.Readers.{Reader, read_enclosed, read_listed, read_perhaps}
 
@@ -82,13 +82,12 @@ seen_either_way : {A : Type 0} (b : Bool) (a : A) (j : Fault) → is_seen (if b 
 seen_either_way true a j = refl
 seen_either_way false a j = refl
 
-pub seen_whole : (test : ℕ → Bool) (n : Num) → is_seen (whole_within test n) ≡ true
-seen_whole test (Int (pos n)) = seen_either_way (test n) n wrong_number
-seen_whole test (Int (negsuc n)) = refl
-seen_whole test (Dec d) = refl
+seen_whole : (least most : ℕ) (o : Option ℕ) → is_seen (whole_within least most o) ≡ true
+seen_whole least most None = refl
+seen_whole least most (Some n) = seen_either_way (nat_le least n && nat_le n most) n wrong_number
 
-pub seen_digits : (test : ℕ → Bool) (s : Symbol) → is_seen (digits_within test s) ≡ of k.WholeNumber s
-seen_digits test s = seen_if (of k.WholeNumber s) (whole_within test (number_in s.token)) (seen_whole test (number_in s.token))
+pub seen_digits : (least most : ℕ) (s : Symbol) → is_seen (digits_within least most s) ≡ of k.WholeNumber s
+seen_digits least most s = seen_if (of k.WholeNumber s) (whole_within least most (whole_of (number_in s.token))) (seen_whole least most (whole_of (number_in s.token)))
 
 pub seen_escape_by : (pattern cs : List ℕ) → is_seen (escape_by pattern cs) ≡ true
 seen_escape_by pattern [] = refl

@@ -6,6 +6,7 @@ pub mod ItemReads
 pub mod NamedAll
 pub mod OneParse
 pub mod PartReads
+pub mod PathSteps
 pub mod Primaries
 pub mod PrimaryReads
 pub mod QueryReads

@@ -63,7 +63,7 @@ reads-scale p =
     reads-made (λ s. (p, s)) (optional (preceded_by (token (of k.Comma)) (terminal (scale p)))) (on comma_or_none) (read_optional (of k.Comma) (read_past (of k.Comma) (read_terminal (scale p))))
     (reads_by class all_classes every (optional_sight (one (is k.Comma))) (optional (preceded_by (token (of k.Comma)) (terminal (scale p)))) comma_or_none (read_optional (of k.Comma) (read_past (of k.Comma) (read_terminal (scale p)))) refl
     (reads-optional (preceded_by (token (of k.Comma)) (terminal (scale p))) (on (one (is k.Comma))) (read_past (of k.Comma) (read_terminal (scale p)))
-    (reads-past (of k.Comma) (terminal (scale p)) (on (one (is k.WholeNumber))) (read_terminal (scale p)) (reads_terminal (scale p) (is k.WholeNumber) (seen_digits (λ n. nat_le n p))))
+    (reads-past (of k.Comma) (terminal (scale p)) (on (one (is k.WholeNumber))) (read_terminal (scale p)) (reads_terminal (scale p) (is k.WholeNumber) (seen_digits 0 p)))
     refl))
 
 reads-decimal_digits : Readable decimal_digits (seen (is k.WholeNumber) (is k.Comma)) read_decimal_digits
@@ -71,7 +71,7 @@ unfolding read_decimal_digits same_class
 reads-decimal_digits =
     reads-begun precision (λ p. made (λ s. (p, s)) (optional (preceded_by (token (of k.Comma)) (terminal (scale p))))) (λ p. on comma_or_none)
     (λ p ts. read_made (λ s. (p, s)) (read_optional (of k.Comma) (read_past (of k.Comma) (read_terminal (scale p))) ts)) (of k.WholeNumber)
-    (seen_digits (λ n. nat_lt 0 n && nat_le n 38)) reads-scale (of k.Comma) (λ p x f. f)
+    (seen_digits 1 38) reads-scale (of k.Comma) (λ p x f. f)
 
 abbrev bracket_or_none : Sight Class
 bracket_or_none = seen_or_nothing (is k.LeftParenthesis) (is k.LeftParenthesis)
@@ -132,7 +132,7 @@ reads-element =
     behind (is k.LeftBracket) (before (plain (made step.Element (terminal digits))) (of k.RightBracket)) (one (is k.WholeNumber)) (read_counted_before (read_plain (λ ts. read_made step.Element (read_terminal digits ts))) (of k.RightBracket))
     (closed (plain (made step.Element (terminal digits))) (one (is k.WholeNumber)) (read_plain (λ ts. read_made step.Element (read_terminal digits ts))) k.RightBracket refl refl
     (plainly (made step.Element (terminal digits)) (one (is k.WholeNumber)) (λ ts. read_made step.Element (read_terminal digits ts))
-    (reads-made step.Element (terminal digits) (on (one (is k.WholeNumber))) (read_terminal digits) (reads_terminal digits (is k.WholeNumber) (seen_digits (λ n. true))))))
+    (reads-made step.Element (terminal digits) (on (one (is k.WholeNumber))) (read_terminal digits) (reads_terminal digits (is k.WholeNumber) (seen_digits 0 9223372036854775807)))))
 
 pub reads-path_step : Countable path_step (one is_step) read_path_step
 unfolding read_path_step same_class

@@ -80,7 +80,7 @@ unfolding read_element_rest same_class
 reads-element_rest =
     closed (plain (made step.Element (terminal digits))) (one (is k.WholeNumber)) (read_plain (λ ts. read_made step.Element (read_terminal digits ts))) k.RightBracket refl refl
     (plainly (made step.Element (terminal digits)) (one (is k.WholeNumber)) (λ ts. read_made step.Element (read_terminal digits ts))
-    (reads-made step.Element (terminal digits) (on (one (is k.WholeNumber))) (read_terminal digits) (reads_terminal digits (is k.WholeNumber) (seen_digits (λ n. true)))))
+    (reads-made step.Element (terminal digits) (on (one (is k.WholeNumber))) (read_terminal digits) (reads_terminal digits (is k.WholeNumber) (seen_digits 0 9223372036854775807))))
 
 reads-all_rest : Countable all_rest (one (is k.Star)) read_all_rest
 unfolding read_all_rest same_class
@@ -255,7 +255,7 @@ unfolding read_limit same_class
 reads-limit =
     reads_by class all_classes every (optional_sight (one (is k.Limit))) limit_rule limit_sight read_limit refl
     (reads-optional (preceded_by (token (of k.Limit)) (terminal digits)) (on (one (is k.Limit))) (read_past (of k.Limit) (read_terminal digits))
-    (reads-past (of k.Limit) (terminal digits) (on (one (is k.WholeNumber))) (read_terminal digits) (reads_terminal digits (is k.WholeNumber) (seen_digits (λ n. true)))) refl)
+    (reads-past (of k.Limit) (terminal digits) (on (one (is k.WholeNumber))) (read_terminal digits) (reads_terminal digits (is k.WholeNumber) (seen_digits 0 9223372036854775807))) refl)
 
 abbrev mark_sight : Sight Class
 mark_sight = seen_or_nothing (is k.Semicolon) (is k.Semicolon)

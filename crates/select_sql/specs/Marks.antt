@@ -139,25 +139,30 @@ name = those is_name name_of
 abbrev pub text : Symbol → Verdict Fault (List ℕ)
 text = those (same_class k.Text) text_in
 
--- digits whose value passes the test; others have the wrong number
-abbrev pub whole_within : (ℕ → Bool) → Num → Verdict Fault ℕ
-whole_within test (Int (pos n)) = if test n then takes n else faults wrong_number
-whole_within test (Int (negsuc n)) = faults wrong_number
-whole_within test (Dec d) = faults wrong_number
+-- digits of at most 2^63 - 1 have a value
+abbrev pub whole_of : Num → Option ℕ
+whole_of (Int (pos n)) = Some n
+whole_of (Int (negsuc n)) = None
+whole_of (Dec d) = None
 
-abbrev pub digits_within : (ℕ → Bool) → Symbol → Verdict Fault ℕ
-digits_within test s = if same_class k.WholeNumber (class s) then whole_within test (number_in s.token) else refuses
+-- digits whose value is within these bounds; others have the wrong number
+abbrev pub whole_within : ℕ → ℕ → Option ℕ → Verdict Fault ℕ
+whole_within least most None = faults wrong_number
+whole_within least most (Some n) = if nat_le least n && nat_le n most then takes n else faults wrong_number
+
+abbrev pub digits_within : ℕ → ℕ → Symbol → Verdict Fault ℕ
+digits_within least most s = if same_class k.WholeNumber (class s) then whole_within least most (whole_of (number_in s.token)) else refuses
 
 -- digits of at most 2^63 - 1
 abbrev pub digits : Symbol → Verdict Fault ℕ
-digits = digits_within (λ n. true)
+digits = digits_within 0 9223372036854775807
 
 -- how many digits a decimal has, and how many of them may stand behind its point
 abbrev pub precision : Symbol → Verdict Fault ℕ
-precision = digits_within (λ n. nat_lt 0 n && nat_le n 38)
+precision = digits_within 1 38
 
 abbrev pub scale : ℕ → Symbol → Verdict Fault ℕ
-scale most = digits_within (λ n. nat_le n most)
+scale most = digits_within 0 most
 
 -- the escape of a pattern: one character, which the pattern fits
 abbrev pub escape_by : List ℕ → List ℕ → Verdict Fault (Option ℕ)

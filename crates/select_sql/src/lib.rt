@@ -3,6 +3,7 @@
 
 mod error;
 mod laws;
+mod path;
 mod stop;
 mod tokens;
 mod tree;

@@ -1,7 +1,7 @@
 //! Single tokens of a query: names, texts, numbers and marks.
 ghost use Rattle.std.specs.Prelude.{◌≡◌, true, false, IfOk};
 ghost use Rattle.grammar_rules.specs.Readers.{starts, read_terminal};
-ghost use Rattle.select_sql.specs.Marks.{of, is_name, name, text};
+ghost use Rattle.select_sql.specs.Marks.{of, is_name, name, text, whole_of, digits_within};
 ghost use Rattle.select_sql.specs.Parsing.{Gives, Expects, is_token, between, name_at, text_at, number_at};
 
 use crate::stop::Stop;
@@ -104,4 +104,34 @@ pub(crate) fn number_at(tokens: &Tokens<'_>) -> Num
         Some(number) => number,
         None => Num::Int(0),
     }
+}
+
+/// The value of digits, where it is within 63 bits.
+fn whole(number: Num) -> Option<u64>
+    ensures { result ≡ whole_of number }
+{
+    match number {
+        Num::Int(value) => { if value < 0 { None } else { Some(value as u64) } }
+        Num::Dec(_) => None,
+    }
+}
+
+/// Passes digits whose value is within these bounds.
+pub(crate) fn digits(tokens: &mut Tokens<'_>, least: u64, most: u64) -> Result<u64, Stop>
+    ensures { Gives (read_terminal (digits_within least most) tokens.old.symbols) result tokens.new.symbols }
+{
+    if !sees(tokens, Class::WholeNumber) {
+        return Err(Stop::Refused);
+    }
+    let Some(value) = whole(number_at(tokens)) else {
+        return Err(Stop::WrongNumber);
+    };
+    if value < least {
+        return Err(Stop::WrongNumber);
+    }
+    if most < value {
+        return Err(Stop::WrongNumber);
+    }
+    tokens.skip();
+    Ok(value)
 }
