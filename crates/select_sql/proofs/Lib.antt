@@ -1,4 +1,5 @@
 pub mod Combining
+pub mod CountedSteps
 pub mod ExpressionReads
 pub mod FactoredCalls
 pub mod Forms

@@ -39,7 +39,7 @@ use Rattle.select_sql.proofs.Regrouping.{same_crossed, same_grouped, same_shared
 use Rattle.select_sql.proofs.Combining.{on, Readable, Countable, is, one, seen, seen_or_nothing, seen_if, seen_those, seen_word, seen_opening, seen_told_by, seen_digits, seen_escape, reads_terminal, reads_counted, written, plainly, as_given, in_pair, behind, closed, maybe_so, one_or_other, behind_one, behind_counted, in_chain, in_brackets, in_turn, in_perhaps}
 use Rattle.select_sql.specs.Marks.{Fault, unknown_function, aggregate_mixed, unsupported_type, bad_escape, wrong_number, too_deep, too_many, class, of, those, is_name, is_path_name, is_unknown_call, is_number, is_decimal, is_for, begins_expression, name_of, text_in, number_in, name, text, digits, precision, scale, escape, one_told, told_by, compare_op, sum_op, prod_op, date_part, stamp_part, simple_type, Form, literal_text, literal_number, truth, untruth, null_form, missing_form, path_form, unknown_call, exponent_form, cast_form, group_form, case_form, coalesce_form, nullif_form, char_length_form, lower_form, upper_form, substring_form, trim_form, extract_form, date_add_form, to_timestamp_form, form_of}
 use Rattle.select_sql.specs.Expressions.{Counting, Room, room_of, perhaps, word, opening, enclosed, listed, decimal_target, decimal_digits, type_of, path_step, path_name, path, or_node, and_node, sum_node, prod_node, Tail, comparing, lying, among, liking, being_null, being_missing, pred_node, not_node, unary_node, is_what, over_class, over_form, trim_side, side_or_both, literal, call, cast, group, arm, case_rest, case, coalesce, nullif, substring, trim_set, trim, extract, date_add, primary_of, primary, flag, unary, prod_part, prod, sum_part, sum, comparison, between, members, in_members, like, is_tail, negatable, tail, pred, negation, conjunction, disjunction, expression}
-use Rattle.select_sql.specs.Readers.{Reader, begins, read_enclosed, read_listed, read_perhaps, read_ended, read_flag, read_decimal_digits, read_decimal, is_simple_type, read_type, is_step, read_path_step, read_path, is_prod_op, is_sum_op, is_compare_op, is_side, begins_negatable, begins_tail, read_literal, read_call, read_cast_rest, read_group, read_arm, read_arms, read_otherwise, read_case_rest, read_case, read_coalesce_rest, read_nullif_rest, read_substring_commas, read_substring_words, read_substring_rest, read_trim_from, read_trim_set, read_trim_plain, read_trim_rest, read_extract_rest, read_date_add_rest, read_primary_of, read_primary, read_unary, read_prod_part, read_prod, read_sum_part, read_sum, read_comparison, read_between, read_members, read_in, read_escape, read_like, read_negatable, read_is, read_tail, read_pred, read_negation, read_conjunction, read_disjunction, read_expression}
+use Rattle.select_sql.specs.Readers.{Reader, begins, read_enclosed, read_listed, read_perhaps, read_ended, read_flag, read_decimal_digits, read_decimal, is_simple_type, read_type, is_step, read_path_step, read_path_name, read_path, is_prod_op, is_sum_op, is_compare_op, is_side, begins_negatable, begins_tail, read_literal, read_call, read_cast_rest, read_group, read_arm, read_arms, read_otherwise, read_case_rest, read_case, read_coalesce_rest, read_nullif_rest, read_substring_commas, read_substring_words, read_substring_rest, read_trim_from, read_trim_set, read_trim_plain, read_trim_rest, read_extract_rest, read_date_add_rest, read_primary_of, read_primary, read_unary, read_prod_part, read_prod, read_sum_part, read_sum, read_comparison, read_between, read_members, read_in, read_escape, read_like, read_negatable, read_is, read_tail, read_pred, read_negation, read_conjunction, read_disjunction, read_expression}
 use Rattle.select_sql.specs.declared.tree.Name.{Name}
 use Rattle.select_sql.specs.declared.tree.Agg.{Agg}
 use Rattle.select_sql.specs.declared.tree.Agg.TheVariants as agg
@@ -120,7 +120,7 @@ module _ (n : ℕ) (some : n ≡ 0 → ⊥) (s d t : Symbol) (r : List Symbol) (
   step_fails m = rw (dot, no_name (class t) star) refl
 
   path_fails : read_path n ts ≡ failed None (t ∷ r)
-  unfolding read_path
+  unfolding read_path read_path_name
   path_fails =
       chain_begin (λ first rest. e.Path (step.Member first ∷ rest)) (begins is_step) (read_one_more too_many path_name) read_path_step n ts (name_of s.token) (n - 1) (d ∷ t ∷ r) taken
       ∙ links_fail (λ rest. e.Path (step.Member (name_of s.token) ∷ rest)) (begins is_step) read_path_step (counted_shrinks path_step (on (one is_step)) read_path_step reads-path_step refl) [] (n - 1) (d ∷ t ∷ r) None (t ∷ r)

@@ -11,6 +11,7 @@ use Rattle.select_sql.specs.declared.tree.Expr.TheVariants as e
 use Rattle.select_sql.specs.declared.tree.SumPart.{SumPart, roll-SumPart}
 use Rattle.select_sql.specs.declared.tree.ProdPart.{ProdPart, roll-ProdPart}
 use Rattle.select_sql.specs.declared.tree.Arm.{Arm, roll-Arm}
+use Rattle.select_sql.specs.declared.tree.Name.{Name}
 use Rattle.select_sql.specs.declared.tree.PathStep.{PathStep}
 use Rattle.select_sql.specs.declared.tree.PathStep.TheVariants as step
 use Rattle.select_sql.specs.declared.tree.CastTarget.{CastTarget}
@@ -76,8 +77,11 @@ read_path_step n =
     read_either (of k.Dot) (read_counted_past (of k.Dot) (read_plain (λ ts. read_made step.Member (read_terminal name ts))) n)
     (read_counted_past (of k.LeftBracket) (read_counted_before (read_plain (λ ts. read_made step.Element (read_terminal digits ts))) (of k.RightBracket)) n)
 
+unfoldable pub read_path_name : Reader Name
+read_path_name = read_one_more too_many path_name
+
 unfoldable pub read_path : Reader Expr
-read_path = read_chain (λ first rest. e.Path (step.Member first ∷ rest)) (begins is_step) (read_one_more too_many path_name) read_path_step
+read_path = read_chain (λ first rest. e.Path (step.Member first ∷ rest)) (begins is_step) read_path_name read_path_step
 
 -- ---- expressions, where this reads the expressions between brackets
 

@@ -48,7 +48,7 @@ pub(crate) fn is_name(class: Class) -> bool
 }
 
 /// The name in front.
-fn name_at(alloc: Global, tokens: &Tokens<'_>) -> Result<Name, AllocError>
+pub(crate) fn name_at(alloc: Global, tokens: &Tokens<'_>) -> Result<Name, AllocError>
     ensures { IfOk result (λ name. name ≡ name_at tokens.now.symbols) }
 {
     if let Some(raw) = tokens.quoted_name() {
