@@ -14,3 +14,6 @@ pub use tree::{
     Agg, Arm, CastTarget, CompareOp, DatePart, Expr, Item, Name, PathStep, ProdOp, ProdPart, Query,
     Selection, Step, SumOp, SumPart, Total,
 };
+
+#[cfg(test)]
+mod tests;
