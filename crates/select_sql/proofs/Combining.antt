@@ -1,34 +1,30 @@
 -- How the rules over tokens and their readers are put together: one law a form, with lookaheads over the classes of tokens, whose
 -- side conditions are tests over all classes.
-use Rattle.std.proofs.Common.{◌≡◌, ℕ, ◌-◌, nat_lt, nat_le, ◌||◌, ◌&&◌, Bool, true, false, not, List, [], ◌∷◌, Option, Some, None, is_some, refl, ◌∙◌, if◌then◌else◌, pos, negsuc}
+use Rattle.std.proofs.Common.{◌≡◌, ℕ, nat_le, ◌&&◌, Bool, true, false, List, [], ◌∷◌, Option, Some, None, is_some, refl, ◌∙◌, if◌then◌else◌}
 use Rattle.std.specs.Prelude.{chars}
-use Rattle.std.specs.List.{list_all}
 use Rattle.sql_tokens.specs.declared.class.Class.{Class}
 use Rattle.sql_tokens.specs.declared.class.Class.TheVariants as k
 use Rattle.sql_tokens.specs.Classes.{same_class, all_classes}
-use Rattle.sql_tokens.specs.TokenForms.{Token, class_of}
+use Rattle.sql_tokens.specs.TokenForms.{Token}
 use Rattle.sql_tokens.specs.Cutting.{Symbol}
 use Rattle.sql_tokens.proofs.ClassLaws.{every}
-use Rattle.sql_decimal.specs.declared.number.Num.{Num}
-use Rattle.sql_decimal.specs.declared.number.Num.TheVariants.{Int, Dec}
 use Rattle.text_view.specs.LikePattern.{pattern_parts}
-use Rattle.grammar_rules.specs.Rules.{Rule, Verdict, takes, faults, refuses, limited, terminal, token, fault, nothing, made, begun, sequence, either, optional, preceded_by, followed_by}
-use Rattle.grammar_rules.specs.Readers.{Outcome, found, read_made, read_terminal, is_seen, starts, chosen, read_past, read_before, read_begun, read_either, read_optional, read_fault}
-use Rattle.grammar_rules.specs.Counted.{Counted, plain, one_more, given, both, after, past, before, maybe, many_from, chain, list_of, item}
-use Rattle.grammar_rules.specs.CountedReaders.{CountedReader, read_plain, read_one_more, read_given, read_both, read_after, read_counted_past, read_counted_before, read_maybe, read_many_from, read_chain, read_list_of, read_item}
+use Rattle.grammar_rules.specs.Rules.{Rule, Verdict, takes, faults, refuses, terminal, begun, either}
+use Rattle.grammar_rules.specs.Readers.{Outcome, read_terminal, is_seen, read_begun, read_either}
+use Rattle.grammar_rules.specs.Counted.{plain, one_more, given, both, after, past, before, maybe, chain}
+use Rattle.grammar_rules.specs.CountedReaders.{read_plain, read_one_more, read_given, read_both, read_after, read_counted_past, read_counted_before, read_maybe, read_chain}
 use Rattle.grammar_rules.proofs.Clear.{Sight}
 use Rattle.grammar_rules.proofs.Sequences.{sequence_sight}
-use Rattle.grammar_rules.proofs.Terminals.{nothing_sight, Sees}
-use Rattle.grammar_rules.proofs.Reading.{Reads, token_sight, past_sight, before_sight, reads-nothing, reads-made, reads-past, reads-before, reads-sequence, reads_seen, reads-fault}
-use Rattle.grammar_rules.proofs.Choices.{either_sight, optional_sight, reads-either, reads-optional}
+use Rattle.grammar_rules.proofs.Reading.{Reads, past_sight, before_sight}
+use Rattle.grammar_rules.proofs.Choices.{either_sight, optional_sight, reads-either}
 use Rattle.grammar_rules.proofs.Many.{many_sight}
-use Rattle.grammar_rules.proofs.Counts.{CountedReads, seen_limited, reads_look, reads-plain, reads-one_more, reads-given, reads-both, reads-after, reads-counted_past, reads-counted_before, reads-maybe}
-use Rattle.grammar_rules.proofs.CountedMany.{reads-chain, reads-list_of, reads-many_from, list_sight}
-use Rattle.grammar_rules.proofs.Begun.{begun_sight, reads-begun, reads-counted_begun}
+use Rattle.grammar_rules.proofs.Counts.{seen_limited, reads_look, reads-plain, reads-one_more, reads-given, reads-both, reads-after, reads-counted_past, reads-counted_before, reads-maybe}
+use Rattle.grammar_rules.proofs.CountedMany.{reads-chain}
+use Rattle.grammar_rules.proofs.Begun.{reads-begun, reads-counted_begun}
 use Rattle.grammar_rules.proofs.Classes.{by_class, apart_in, distinct_in, seen_in, more_in, apart_by, distinct_by, more_by, reads_by}
-use Rattle.select_sql.specs.Marks.{Fault, wrong_number, bad_escape, too_deep, too_many, class, of, those, whole_of, whole_within, digits_within, escape_by, escape, text_in, number_in, told_by, one_told}
-use Rattle.select_sql.specs.Expressions.{Counting, word, opening, enclosed, listed, perhaps}
-use Rattle.select_sql.specs.Readers.{Reader, read_enclosed, read_listed, read_perhaps}
+use Rattle.select_sql.specs.Marks.{Fault, wrong_number, bad_escape, too_deep, too_many, class, of, those, whole_of, whole_within, digits_within, escape_by, escape, text_in, number_in, told_by}
+use Rattle.select_sql.specs.Expressions.{Counting, word, opening, enclosed, perhaps}
+use Rattle.select_sql.specs.Readers.{Reader, read_enclosed, read_perhaps}
 
 -- the lookahead over tokens that tells them by their class
 abbrev pub on : Sight Class → Sight Symbol

@@ -1,5 +1,5 @@
 -- The steps of functions that pass a token which is counted.
-use Rattle.std.proofs.Common.{◌≡◌, ℕ, zero, suc, ◌-◌, nat_lt, Bool, true, false, List, [], ◌∷◌, drop, Option, Some, None, refl, sym, ap, ◌∙◌, if◌then◌else◌, arith}
+use Rattle.std.proofs.Common.{◌≡◌, ℕ, zero, suc, ◌-◌, nat_lt, Bool, true, false, List, [], ◌∷◌, drop, Some, None, refl, if◌then◌else◌, arith}
 use Rattle.std.proofs.lemmas.Bool.Decides.{nat_tests}
 use Rattle.sql_tokens.specs.declared.class.Class.{Class}
 use Rattle.sql_tokens.specs.declared.class.Class.TheVariants as k
@@ -7,7 +7,7 @@ use Rattle.sql_tokens.specs.Cutting.{Symbol, first_class}
 use Rattle.grammar_rules.specs.Rules.{takes, refuses}
 use Rattle.grammar_rules.specs.Readers.{found, failed, starts}
 use Rattle.grammar_rules.specs.CountedReaders.{read_one_more}
-use Rattle.select_sql.specs.Marks.{Fault, too_many, class}
+use Rattle.select_sql.specs.Marks.{too_many, class}
 use Rattle.grammar_rules.proofs.Counts.{one_more_refused}
 use Rattle.select_sql.specs.Readers.{begins}
 use Rattle.select_sql.proofs.Combining.{seen_if}

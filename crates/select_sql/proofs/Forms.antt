@@ -1,5 +1,5 @@
 -- A choice of many forms that begin apart is read.
-use Rattle.std.proofs.Common.{◌≡◌, Bool, true, false, List, [], ◌∷◌, ◌++◌, Option, Some, None, is_some, refl, sym, ap, ◌∙◌, inl, inr}
+use Rattle.std.proofs.Common.{◌≡◌, Bool, true, false, List, [], ◌∷◌, Option, Some, None, is_some, refl, sym, ap, ◌∙◌, inl, inr}
 use Rattle.grammar_rules.specs.Rules.{Rule, Last, alternatives}
 use Rattle.grammar_rules.specs.Readers.{Outcome, failed}
 use Rattle.grammar_rules.proofs.Clear.{Sight, Clear}

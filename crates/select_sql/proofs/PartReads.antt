@@ -1,45 +1,27 @@
 -- The readers of types and paths, and what may follow an expression's parts.
-use Rattle.std.proofs.Common.{◌≡◌, ℕ, zero, suc, ◌-◌, nat_lt, nat_le, ◌||◌, ◌&&◌, ◌==◌, Bool, true, false, not, List, [], ◌∷◌, Option, Some, None, is_some, refl, sym, ap, ◌∙◌, subst, if◌then◌else◌}
-use Rattle.std.specs.List.{list_all, slice_get}
-use Rattle.text_view.specs.declared.view.Side.{Side}
-use Rattle.text_view.specs.declared.view.Side.TheVariants as side
+use Rattle.std.proofs.Common.{◌≡◌, ℕ, ◌||◌, Bool, true, false, ◌∷◌, Option, refl}
 use Rattle.sql_tokens.specs.declared.class.Class.{Class}
 use Rattle.sql_tokens.specs.declared.class.Class.TheVariants as k
 use Rattle.sql_tokens.specs.Classes.{same_class, all_classes}
 use Rattle.sql_tokens.specs.Cutting.{Symbol}
 use Rattle.sql_tokens.proofs.ClassLaws.{every}
-use Rattle.select_sql.specs.declared.tree.Expr.{Expr}
 use Rattle.select_sql.specs.declared.tree.Expr.TheVariants as e
-use Rattle.select_sql.specs.declared.tree.SumPart.{SumPart, roll-SumPart}
-use Rattle.select_sql.specs.declared.tree.ProdPart.{ProdPart, roll-ProdPart}
-use Rattle.select_sql.specs.declared.tree.Arm.{Arm, roll-Arm}
 use Rattle.select_sql.specs.declared.tree.PathStep.{PathStep}
 use Rattle.select_sql.specs.declared.tree.PathStep.TheVariants as step
-use Rattle.select_sql.specs.declared.tree.CastTarget.{CastTarget}
-use Rattle.grammar_rules.specs.Rules.{Rule, Verdict, takes, faults, refuses, limited, terminal, token, fault, nothing, made, begun, sequence, alternatives, either, optional, preceded_by, followed_by, Same}
-use Rattle.grammar_rules.specs.Factored.{then_optional}
-use Rattle.grammar_rules.specs.Readers.{Outcome, found, failed, and_then, read_made, read_terminal, is_seen, starts, chosen, read_fault, read_past, read_before, read_either, read_optional, read_begun}
-use Rattle.grammar_rules.specs.Counted.{Counted, plain, one_more, given, both, after, past, before, maybe, many_from, chain, list_of, item}
-use Rattle.grammar_rules.specs.CountedReaders.{CountedReader, read_plain, read_one_more, read_given, read_both, read_after, read_counted_past, read_counted_before, read_maybe, read_chain, read_list_of}
-use Rattle.grammar_rules.proofs.Clear.{Sight, Closed}
-use Rattle.grammar_rules.proofs.Sequences.{sequence_sight}
-use Rattle.grammar_rules.proofs.Terminals.{nothing_sight, closed-terminal}
-use Rattle.grammar_rules.proofs.Reading.{Reads, token_sight, past_sight, before_sight, reads-nothing, reads-made, reads-past, reads-before, reads-sequence, reads_seen, reads-fault}
+use Rattle.grammar_rules.specs.Rules.{Rule, terminal, token, nothing, made, begun, optional, preceded_by, followed_by}
+use Rattle.grammar_rules.specs.Readers.{found, read_made, read_terminal, read_past, read_before, read_optional, read_begun}
+use Rattle.grammar_rules.specs.Counted.{plain, one_more, past, before}
+use Rattle.grammar_rules.specs.CountedReaders.{read_plain, read_counted_past, read_counted_before}
+use Rattle.grammar_rules.proofs.Clear.{Sight}
+use Rattle.grammar_rules.proofs.Terminals.{nothing_sight}
+use Rattle.grammar_rules.proofs.Reading.{past_sight, before_sight, reads-nothing, reads-made, reads-past, reads-before}
 use Rattle.grammar_rules.proofs.Choices.{either_sight, optional_sight, reads-either, reads-optional}
-use Rattle.grammar_rules.proofs.Many.{many_sight}
-use Rattle.grammar_rules.proofs.Counts.{CountedReads}
-use Rattle.grammar_rules.proofs.CountedMany.{reads-list_of, list_sight}
-use Rattle.grammar_rules.proofs.Begun.{begun_sight, reads-begun}
-use Rattle.grammar_rules.proofs.Classes.{by_class, apart_in, distinct_in, seen_in, more_in, agree, apart_by, distinct_by, more_by, reads_by}
-use Rattle.grammar_rules.proofs.Same.{same_refl, same_sym, same_trans, same-made, same-sequence, same-either, reads-same}
-use Rattle.grammar_rules.proofs.Factoring.{same_factored, same_then_optional, same_made_first, same_made_second, same_made_each, same_in_a_row, same_swapped}
-use Rattle.select_sql.specs.Forms.{read_one_of}
-use Rattle.select_sql.proofs.Forms.{Told, reads-one_of}
-use Rattle.select_sql.proofs.Regrouping.{same_crossed, same_grouped, same_shared}
-use Rattle.select_sql.proofs.Combining.{on, Readable, Countable, is, one, seen, seen_or_nothing, seen_if, seen_those, seen_word, seen_opening, seen_told_by, seen_digits, seen_escape, reads_terminal, reads_counted, written, plainly, as_given, in_pair, behind, closed, maybe_so, one_or_other, behind_one, behind_counted, in_chain, in_brackets}
-use Rattle.select_sql.specs.Marks.{Fault, unknown_function, aggregate_mixed, unsupported_type, bad_escape, wrong_number, too_deep, too_many, class, of, those, is_name, is_path_name, is_unknown_call, is_number, is_decimal, is_for, begins_expression, name_of, text_in, number_in, name, text, digits, precision, scale, escape, one_told, told_by, compare_op, sum_op, prod_op, date_part, stamp_part, simple_type, Form, literal_text, literal_number, truth, untruth, null_form, missing_form, path_form, unknown_call, exponent_form, cast_form, group_form, case_form, coalesce_form, nullif_form, char_length_form, lower_form, upper_form, substring_form, trim_form, extract_form, date_add_form, to_timestamp_form, form_of}
-use Rattle.select_sql.specs.Expressions.{Counting, Room, room_of, perhaps, word, opening, enclosed, listed, decimal_target, decimal_digits, type_of, path_step, path_name, path, or_node, and_node, sum_node, prod_node, Tail, comparing, lying, among, liking, being_null, being_missing, pred_node, not_node, unary_node, is_what, over_class, over_form, trim_side, side_or_both, literal, call, cast, group, arm, case_rest, case, coalesce, nullif, substring, trim_set, trim, extract, date_add, primary_of, primary, flag, unary, prod_part, prod, sum_part, sum, comparison, between, members, in_members, like, is_tail, negatable, tail, pred, negation, conjunction, disjunction, expression}
-use Rattle.select_sql.specs.Readers.{Reader, begins, read_enclosed, read_listed, read_perhaps, read_ended, read_flag, read_decimal_digits, read_decimal, is_simple_type, read_type, is_step, read_path_step, read_path_name, read_path, is_prod_op, is_sum_op, is_compare_op, is_side, begins_negatable, begins_tail, read_literal, read_call, read_cast_rest, read_group, read_arm, read_arms, read_otherwise, read_case_rest, read_case, read_coalesce_rest, read_nullif_rest, read_substring_commas, read_substring_words, read_substring_rest, read_trim_from, read_trim_set, read_trim_plain, read_trim_rest, read_extract_rest, read_date_add_rest, read_primary_of, read_primary, read_unary, read_prod_part, read_prod, read_sum_part, read_sum, read_comparison, read_between, read_members, read_in, read_escape, read_like, read_negatable, read_is, read_tail, read_pred, read_negation, read_conjunction, read_disjunction, read_expression}
+use Rattle.grammar_rules.proofs.Begun.{reads-begun}
+use Rattle.grammar_rules.proofs.Classes.{distinct_in, seen_in, apart_by, distinct_by, reads_by}
+use Rattle.select_sql.proofs.Combining.{on, Readable, Countable, is, one, seen, seen_or_nothing, seen_those, seen_word, seen_opening, seen_digits, reads_terminal, reads_counted, plainly, behind, closed, one_or_other, in_chain}
+use Rattle.select_sql.specs.Marks.{Fault, too_many, class, of, is_name, is_path_name, is_decimal, name_of, name, digits, precision, scale, simple_type}
+use Rattle.select_sql.specs.Expressions.{Counting, word, opening, decimal_target, decimal_digits, type_of, path_step, path_name, path, flag}
+use Rattle.select_sql.specs.Readers.{begins, read_flag, read_decimal_digits, read_decimal, is_simple_type, read_type, is_step, read_path_step, read_path_name, read_path}
 
 -- ---- flags
 

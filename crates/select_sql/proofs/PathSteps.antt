@@ -1,5 +1,5 @@
 -- The steps of the parser of paths, as equations of its readers.
-use Rattle.std.proofs.Common.{◌≡◌, ℕ, Bool, true, false, List, [], ◌∷◌, ◌++◌, ◌-◌, ◌<◌, length, drop, Option, Some, None, refl, sym, ap, ◌∙◌}
+use Rattle.std.proofs.Common.{◌≡◌, ℕ, true, false, List, [], ◌∷◌, ◌++◌, ◌-◌, ◌<◌, length, drop, Option, Some, None, refl, sym, ◌∙◌}
 use Rattle.sql_tokens.specs.declared.class.Class.TheVariants as k
 use Rattle.sql_tokens.specs.Cutting.{Symbol, first_class}
 use Rattle.select_sql.specs.declared.tree.Name.{Name}

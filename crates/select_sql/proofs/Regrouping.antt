@@ -1,11 +1,6 @@
 -- More forms of rules that say the same.
-use Rattle.std.proofs.Common.{◌≡◌, ℕ, Bool, true, false, List, [], ◌∷◌, ◌++◌, Option, Some, None, refl, inl, inr}
-use Rattle.grammar_rules.specs.Rules.{Rule, Last, token, nothing, made, sequence, either, one_of_two, preceded_by, followed_by, begun, Same, Within}
-use Rattle.grammar_rules.specs.Counted.{Counted, given, both, after, past, before, plain}
-use Rattle.grammar_rules.proofs.Clear.{Closed}
-use Rattle.grammar_rules.proofs.Terminals.{closed-terminal}
-use Rattle.grammar_rules.proofs.Same.{same_refl, same_sym, same_trans, same-made, same-sequence, same-either}
-use Rattle.grammar_rules.proofs.Factoring.{same_factored, same_made_each, same_made_first}
+use Rattle.std.proofs.Common.{◌≡◌, Bool, true, false, List, ◌++◌, inl, inr}
+use Rattle.grammar_rules.specs.Rules.{Rule, Last, sequence, either, one_of_two, Same, Within}
 
 -- ---- alternatives in another order
 

@@ -19,10 +19,9 @@ use Rattle.select_sql.specs.declared.tree.PathStep.{PathStep}
 use Rattle.select_sql.specs.declared.tree.PathStep.TheVariants as step
 use Rattle.select_sql.specs.declared.tree.CastTarget.{CastTarget}
 use Rattle.select_sql.specs.declared.tree.CastTarget.TheVariants as target
-use Rattle.select_sql.specs.declared.tree.DatePart.{DatePart}
-use Rattle.grammar_rules.specs.Rules.{Rule, Verdict, takes, faults, refuses, limited, terminal, token, fault, nothing, made, begun, alternatives, either, optional, preceded_by, followed_by}
-use Rattle.grammar_rules.specs.Counted.{Counted, plain, one_more, given, both, after, past, before, maybe, many_from, chain, list_of}
-use Rattle.select_sql.specs.Marks.{Fault, unknown_function, aggregate_mixed, unsupported_type, too_deep, too_many, class, of, those, is_path_name, is_unknown_call, is_number, is_decimal, is_for, begins_expression, name_of, text_in, number_in, name, text, digits, precision, scale, escape, one_told, compare_op, sum_op, prod_op, date_part, stamp_part, simple_type, Form, literal_text, literal_number, truth, untruth, null_form, missing_form, path_form, unknown_call, exponent_form, cast_form, group_form, case_form, coalesce_form, nullif_form, char_length_form, lower_form, upper_form, substring_form, trim_form, extract_form, date_add_form, to_timestamp_form, form_of}
+use Rattle.grammar_rules.specs.Rules.{Rule, Verdict, takes, refuses, limited, terminal, token, fault, nothing, made, begun, alternatives, either, optional, preceded_by, followed_by}
+use Rattle.grammar_rules.specs.Counted.{Counted, plain, one_more, given, both, after, past, before, maybe, chain, list_of}
+use Rattle.select_sql.specs.Marks.{Fault, unknown_function, unsupported_type, too_deep, too_many, class, of, those, is_path_name, is_unknown_call, is_number, is_decimal, is_for, begins_expression, name_of, text_in, number_in, name, text, digits, precision, scale, escape, one_told, compare_op, sum_op, prod_op, date_part, stamp_part, simple_type, Form, literal_text, literal_number, truth, untruth, null_form, missing_form, path_form, unknown_call, exponent_form, cast_form, group_form, case_form, coalesce_form, nullif_form, char_length_form, lower_form, upper_form, substring_form, trim_form, extract_form, date_add_form, to_timestamp_form, form_of}
 
 -- a rule that counts primaries
 abbrev pub Counting : Type 0 → Type 1

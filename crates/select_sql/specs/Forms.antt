@@ -1,5 +1,5 @@
 -- A choice of many forms that begin apart, and its reader.
-use Rattle.std.specs.Prelude.{ℕ, List, [], ◌∷◌, Option, Some, None}
+use Rattle.std.specs.Prelude.{List, [], ◌∷◌, Option, Some, None}
 use Rattle.grammar_rules.specs.Readers.{Outcome, failed}
 
 -- the outcome of the form that the first symbol begins

@@ -1,5 +1,5 @@
 -- What the grammar sees of a token: its class, and what it spells. And the kinds of faults.
-use Rattle.std.specs.Prelude.{ℕ, Bool, true, false, ◌&&◌, ◌≤◌, nat_lt, nat_le, List, [], ◌∷◌, Option, Some, None, is_some, if◌then◌else◌, ℤ, pos, negsuc, chars}
+use Rattle.std.specs.Prelude.{ℕ, Bool, true, false, ◌&&◌, nat_le, List, [], ◌∷◌, Option, Some, None, is_some, if◌then◌else◌, pos, negsuc, chars}
 use Rattle.sql_decimal.specs.declared.number.Num.{Num}
 use Rattle.sql_decimal.specs.declared.number.Num.TheVariants.{Int, Dec}
 use Rattle.text_view.specs.LikePattern.{pattern_parts}

@@ -1,5 +1,5 @@
 -- The grammar of queries. A rule stands below its line of the S3 Select reference's grammar, as for expressions.
-use Rattle.std.specs.Prelude.{ℕ, zero, suc, Bool, true, false, List, [], ◌∷◌, Option, Some, None, if◌then◌else◌}
+use Rattle.std.specs.Prelude.{ℕ, true, List, [], ◌∷◌, Option, Some, None}
 use Rattle.sql_tokens.specs.declared.class.Class.{Class}
 use Rattle.sql_tokens.specs.declared.class.Class.TheVariants as k
 use Rattle.sql_tokens.specs.Cutting.{Symbol}
@@ -13,7 +13,7 @@ use Rattle.select_sql.specs.declared.tree.Selection.{Selection}
 use Rattle.select_sql.specs.declared.tree.Selection.TheVariants as selection
 use Rattle.select_sql.specs.declared.tree.Step.{Step}
 use Rattle.select_sql.specs.declared.tree.Step.TheVariants as step
-use Rattle.grammar_rules.specs.Rules.{Rule, Verdict, takes, faults, refuses, told, terminal, token, nothing, made, begun, sequence, alternatives, either, optional, preceded_by, followed_by}
+use Rattle.grammar_rules.specs.Rules.{Rule, told, terminal, token, nothing, made, begun, sequence, alternatives, either, optional, preceded_by}
 use Rattle.grammar_rules.specs.Counted.{Counted, plain, given, both, after, past, before, maybe, many_from, chain, item as one_of_list, list_of}
 use Rattle.select_sql.specs.Marks.{Fault, unknown_function, aggregate_mixed, unsupported_type, too_many, class, of, name, digits, is_source, Form, unknown_call, exponent_form, form_of}
 use Rattle.select_sql.specs.Expressions.{Counting, enclosed, over_class, path_name, expression}

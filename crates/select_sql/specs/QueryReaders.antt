@@ -1,5 +1,5 @@
 -- The readers of the grammar of queries, which mirror its rules; where alternatives begin alike, they mirror the factored rule.
-use Rattle.std.specs.Prelude.{ℕ, Bool, true, false, ◌||◌, List, [], ◌∷◌, Option, Some, None, is_some, if◌then◌else◌}
+use Rattle.std.specs.Prelude.{ℕ, Bool, true, List, [], ◌∷◌, Option, is_some}
 use Rattle.sql_tokens.specs.declared.class.Class.{Class}
 use Rattle.sql_tokens.specs.declared.class.Class.TheVariants as k
 use Rattle.sql_tokens.specs.Cutting.{Symbol}
@@ -14,7 +14,7 @@ use Rattle.select_sql.specs.declared.tree.Selection.TheVariants as selection
 use Rattle.select_sql.specs.declared.tree.Step.{Step}
 use Rattle.select_sql.specs.declared.tree.Step.TheVariants as step
 use Rattle.grammar_rules.specs.Rules.{told}
-use Rattle.grammar_rules.specs.Readers.{Outcome, found, failed, and_then, read_made, read_terminal, starts, chosen, read_past, read_before, read_either, read_optional, read_begun, read_ahead}
+use Rattle.grammar_rules.specs.Readers.{Outcome, found, and_then, read_made, read_terminal, read_past, read_either, read_optional, read_begun, read_ahead}
 use Rattle.grammar_rules.specs.CountedReaders.{CountedReader, read_plain, read_given, read_both, read_after, read_counted_past, read_counted_before, read_maybe, read_many_from, read_chain, read_item, read_list_of}
 use Rattle.select_sql.specs.Forms.{read_one_of}
 use Rattle.select_sql.specs.Marks.{Fault, class, of, is_name, name, digits, is_source, begins_expression}

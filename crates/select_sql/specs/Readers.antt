@@ -1,5 +1,5 @@
 -- The readers of the grammar of expressions, which mirror its rules; where alternatives begin alike, they mirror the factored rule.
-use Rattle.std.specs.Prelude.{ℕ, zero, suc, Bool, true, false, nat_lt, ◌||◌, List, [], ◌∷◌, Option, Some, None, is_some, if◌then◌else◌}
+use Rattle.std.specs.Prelude.{ℕ, zero, suc, Bool, true, false, ◌||◌, List, ◌∷◌, Option, Some, None, is_some, if◌then◌else◌}
 use Rattle.text_view.specs.declared.view.Side.{Side}
 use Rattle.text_view.specs.declared.view.Side.TheVariants as side
 use Rattle.sql_tokens.specs.declared.class.Class.{Class}
@@ -15,11 +15,11 @@ use Rattle.select_sql.specs.declared.tree.Name.{Name}
 use Rattle.select_sql.specs.declared.tree.PathStep.{PathStep}
 use Rattle.select_sql.specs.declared.tree.PathStep.TheVariants as step
 use Rattle.select_sql.specs.declared.tree.CastTarget.{CastTarget}
-use Rattle.grammar_rules.specs.Rules.{Verdict, takes, refuses, limited, terminal}
-use Rattle.grammar_rules.specs.Readers.{Outcome, found, failed, and_then, read_made, read_terminal, is_seen, starts, chosen, read_fault, read_past, read_before, read_either, read_optional, read_begun}
+use Rattle.grammar_rules.specs.Rules.{takes, refuses}
+use Rattle.grammar_rules.specs.Readers.{Outcome, found, and_then, read_made, read_terminal, is_seen, read_fault, read_past, read_before, read_either, read_optional, read_begun}
 use Rattle.grammar_rules.specs.CountedReaders.{CountedReader, read_plain, read_one_more, read_given, read_both, read_after, read_counted_past, read_counted_before, read_maybe, read_chain, read_list_of}
 use Rattle.select_sql.specs.Forms.{read_one_of}
-use Rattle.select_sql.specs.Marks.{Fault, unknown_function, unsupported_type, too_deep, too_many, class, of, those, is_path_name, is_unknown_call, is_number, is_decimal, is_for, begins_expression, name_of, text_in, number_in, name, text, digits, precision, scale, escape, one_told, compare_op, sum_op, prod_op, date_part, stamp_part, simple_type, Form, literal_text, literal_number, truth, untruth, null_form, missing_form, path_form, unknown_call, exponent_form, cast_form, group_form, case_form, coalesce_form, nullif_form, char_length_form, lower_form, upper_form, substring_form, trim_form, extract_form, date_add_form, to_timestamp_form, form_of}
+use Rattle.select_sql.specs.Marks.{Fault, unknown_function, unsupported_type, too_deep, too_many, class, of, is_unknown_call, is_number, is_decimal, is_for, begins_expression, text_in, number_in, name, text, digits, precision, scale, escape, one_told, compare_op, sum_op, prod_op, date_part, stamp_part, simple_type, Form, literal_text, literal_number, truth, untruth, null_form, missing_form, path_form, unknown_call, exponent_form, cast_form, group_form, case_form, coalesce_form, nullif_form, char_length_form, lower_form, upper_form, substring_form, trim_form, extract_form, date_add_form, to_timestamp_form, form_of}
 use Rattle.select_sql.specs.Expressions.{Room, room_of, word, opening, decimal_target, path_name, or_node, and_node, sum_node, prod_node, Tail, comparing, lying, among, liking, pred_node, not_node, unary_node, is_what, over_class, trim_side, side_or_both}
 
 -- a reader that counts primaries

@@ -1,5 +1,5 @@
 -- The loop over the steps follows the reader of a path.
-use Rattle.std.proofs.Common.{sym, ap, ◌∙◌}
+use Rattle.std.proofs.Common.{sym, ◌∙◌}
 use Rattle.std.proofs.lemmas.Result.{err_from_is_err_and}
 use Rattle.select_sql.specs.Parsing.{fault_of}
 use Rattle.select_sql.proofs.PathSteps.{path_begin, path_none, step_shorter, path_step_on, path_stop, path_fail}
