@@ -9,7 +9,9 @@ use Rattle.sql_decimal.specs.declared.number.Num.{Num}
 use Rattle.select_sql.specs.declared.tree.Name.{Name}
 use Rattle.select_sql.specs.declared.stop.Stop.{Stop}
 use Rattle.select_sql.specs.declared.stop.Stop.TheVariants as stop
-use Rattle.grammar_rules.specs.Readers.{Outcome, found, failed, starts}
+use Rattle.grammar_rules.specs.Readers.{Outcome, found, failed, starts, read_made}
+use Rattle.grammar_rules.specs.CountedReaders.{CountedReader, read_one_more}
+use Rattle.select_sql.specs.Expressions.{word}
 use Rattle.select_sql.specs.Marks.{Fault, unknown_function, aggregate_mixed, unsupported_type, bad_escape, wrong_number, too_deep, too_many, of, name_by, or_nothing, number_or_zero}
 
 -- the fault that a stop tells
@@ -57,3 +59,7 @@ text_at ts = undoubled 39 (or_nothing (first_of text_of ts))
 
 abbrev pub number_at : List Symbol → Num
 number_at ts = number_or_zero (first_number ts)
+
+-- a token of the class, which is counted
+abbrev pub read_counted_token : Class → CountedReader ℕ Symbol Fault (Unit {0})
+read_counted_token c n ts = read_made (λ p. (tt, p.1)) (read_one_more too_many (word c) n ts)

@@ -3,6 +3,7 @@
 
 mod error;
 mod laws;
+mod literals;
 mod path;
 mod stop;
 mod tokens;

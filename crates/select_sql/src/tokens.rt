@@ -77,7 +77,7 @@ pub(crate) fn name(alloc: Global, tokens: &mut Tokens<'_>) -> Result<Name, Stop>
 }
 
 /// The text in front.
-fn text_at(alloc: Global, tokens: &Tokens<'_>) -> Result<TextBuf, AllocError>
+pub(crate) fn text_at(alloc: Global, tokens: &Tokens<'_>) -> Result<TextBuf, AllocError>
     ensures { IfOk result (λ text. text ≡ text_at tokens.now.symbols) }
 {
     let raw = tokens.text().unwrap_or("");
