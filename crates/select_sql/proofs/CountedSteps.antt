@@ -1,0 +1,67 @@
+-- The steps of functions that pass a token which is counted.
+use Rattle.std.proofs.Common.{◌≡◌, ℕ, zero, suc, ◌-◌, nat_lt, Bool, true, false, List, [], ◌∷◌, drop, Some, None, refl, if◌then◌else◌, arith}
+use Rattle.std.proofs.lemmas.Bool.Decides.{nat_tests}
+use Rattle.sql_tokens.specs.declared.class.Class.{Class}
+use Rattle.sql_tokens.specs.declared.class.Class.TheVariants as k
+use Rattle.sql_tokens.specs.Cutting.{Symbol, first_class}
+use Rattle.grammar_rules.specs.Rules.{takes, refuses}
+use Rattle.grammar_rules.specs.Readers.{found, failed, starts}
+use Rattle.grammar_rules.specs.CountedReaders.{read_one_more}
+use Rattle.sql_tokens.specs.Classes.{same_class}
+use Rattle.select_sql.specs.declared.tree.Expr.TheVariants as e
+use Rattle.select_sql.specs.Marks.{too_many, class, of, text_in}
+use Rattle.select_sql.specs.Parsing.{read_counted_token, text_at}
+use Rattle.grammar_rules.proofs.Counts.{one_more_refused}
+use Rattle.select_sql.specs.Readers.{begins, read_literal}
+use Rattle.select_sql.proofs.Combining.{seen_if}
+
+-- a test of the first token's class
+pub first_begins : (test : Class → Bool) → test k.NoToken ≡ false → (ts : List Symbol) → test (first_class ts) ≡ starts (begins test) ts
+first_begins test e [] = e
+first_begins test e (s ∷ ts) = refl
+
+some_left : (n : ℕ) → (n ≡ 0 → ⊥) → nat_lt 0 n ≡ true
+some_left zero z = absurd (z refl)
+some_left (suc n) z = grind (arith, nat_tests)
+
+module _ {A : Type 0} (test : Class → Bool) (spelled : Symbol → A) (n : ℕ) where
+  pub counted_refused : (ts : List Symbol) → starts (begins test) ts ≡ false → read_one_more too_many (λ s. if test (class s) then takes (spelled s) else refuses) n ts ≡ failed None ts
+  counted_refused [] h = refl
+  counted_refused (s ∷ ts) h =
+      one_more_refused too_many (λ s. if test (class s) then takes (spelled s) else refuses) n (begins test) (λ s. seen_if (test (class s)) (takes (spelled s)) refl) (s ∷ ts) h
+
+  pub counted_over : (ts : List Symbol) → starts (begins test) ts ≡ true → n ≡ 0 → read_one_more too_many (λ s. if test (class s) then takes (spelled s) else refuses) n ts ≡ failed (Some too_many) ts
+  counted_over [] h z = let p : false ≡ true = h in cc
+  counted_over (s ∷ ts) h z = rw (z, h) refl
+
+  pub counted_taken : (ts : List Symbol) (a : A) → starts (begins test) ts ≡ true → (n ≡ 0 → ⊥) → ((s : Symbol) (r : List Symbol) → ts ≡ s ∷ r → spelled s ≡ a) → read_one_more too_many (λ s. if test (class s) then takes (spelled s) else refuses) n ts ≡ found (a, n - 1) (drop 1 ts)
+  counted_taken [] a h z e = let p : false ≡ true = h in cc
+  counted_taken (s ∷ ts) a h z e = rw (some_left n z, h, e s ts refl) refl
+
+-- ---- a token without what it spells
+
+module _ (c : Class) (n : ℕ) (ts : List Symbol) where
+  pub token_refused : starts (of c) ts ≡ false → read_counted_token c n ts ≡ failed None ts
+  token_refused h = rw (counted_refused (same_class c) (λ s. s) n ts h) refl
+
+  pub token_over : starts (of c) ts ≡ true → n ≡ 0 → read_counted_token c n ts ≡ failed (Some too_many) ts
+  token_over h z = rw (counted_over (same_class c) (λ s. s) n ts h z) refl
+
+  pub token_taken : starts (of c) ts ≡ true → (n ≡ 0 → ⊥) → (left : List Symbol) → left ≡ drop 1 ts → read_counted_token c n ts ≡ found (tt, n - 1) left
+  token_taken h z left l = taken_from ts h l
+    where
+      taken_from : (us : List Symbol) → starts (of c) us ≡ true → left ≡ drop 1 us → read_counted_token c n us ≡ found (tt, n - 1) left
+      taken_from [] h l = let p : false ≡ true = h in cc
+      taken_from (s ∷ us) h l = rw (l, some_left n z, h) refl
+
+-- ---- texts and numbers
+
+module _ (n : ℕ) (ts : List Symbol) where
+  pub text_refused : starts (of k.Text) ts ≡ false → read_literal (same_class k.Text) (λ s. e.Text (text_in s.token)) n ts ≡ failed None ts
+  text_refused h = counted_refused (same_class k.Text) (λ s. e.Text (text_in s.token)) n ts h
+
+  pub text_over : starts (of k.Text) ts ≡ true → n ≡ 0 → read_literal (same_class k.Text) (λ s. e.Text (text_in s.token)) n ts ≡ failed (Some too_many) ts
+  text_over h z = counted_over (same_class k.Text) (λ s. e.Text (text_in s.token)) n ts h z
+
+  pub text_taken : starts (of k.Text) ts ≡ true → (n ≡ 0 → ⊥) → (left : List Symbol) → left ≡ drop 1 ts → read_literal (same_class k.Text) (λ s. e.Text (text_in s.token)) n ts ≡ found (e.Text (text_at ts), n - 1) left
+  text_taken h z left l = rw l (counted_taken (same_class k.Text) (λ s. e.Text (text_in s.token)) n ts (e.Text (text_at ts)) h z (λ s r q. rw q refl))

@@ -1,0 +1,54 @@
+//! Primaries of one token.
+ghost use Rattle.std.specs.Prelude.{◌≡◌, true};
+ghost use Rattle.sql_tokens.specs.Classes.{same_class};
+ghost use Rattle.sql_tokens.specs.declared.class.Class.TheVariants as k;
+ghost use Rattle.select_sql.specs.declared.tree.Expr.TheVariants as e;
+ghost use Rattle.select_sql.specs.Marks.{text_in};
+ghost use Rattle.select_sql.specs.Parsing.{GivesCounted, is_token, read_counted_token};
+ghost use Rattle.select_sql.specs.Readers.{read_literal};
+
+use crate::stop::Stop;
+use crate::tokens::{sees, text_at};
+use crate::tree::Expr;
+use sql_tokens::{Class, Tokens};
+use std::alloc::Global;
+
+/// Passes a token of this class, which counts as a primary.
+pub(crate) fn counted(
+    tokens: &mut Tokens<'_>,
+    primaries: &mut u32,
+    class: Class,
+) -> Result<(), Stop>
+    requires { is_token class ≡ true }
+    ensures { GivesCounted (read_counted_token class primaries.old tokens.old.symbols) result primaries.new tokens.new.symbols }
+{
+    if !sees(tokens, class) {
+        return Err(Stop::Refused);
+    }
+    if *primaries == 0 {
+        return Err(Stop::TooMany);
+    }
+    tokens.skip();
+    *primaries -= 1;
+    Ok(())
+}
+
+/// A text.
+pub(crate) fn text(
+    alloc: Global,
+    tokens: &mut Tokens<'_>,
+    primaries: &mut u32,
+) -> Result<Expr, Stop>
+    ensures { GivesCounted (read_literal (same_class k.Text) (λ s. e.Text (text_in s.token)) primaries.old tokens.old.symbols) result primaries.new tokens.new.symbols }
+{
+    if !sees(tokens, Class::Text) {
+        return Err(Stop::Refused);
+    }
+    if *primaries == 0 {
+        return Err(Stop::TooMany);
+    }
+    let found = text_at(alloc, tokens)?;
+    tokens.skip();
+    *primaries -= 1;
+    Ok(Expr::Text(found))
+}
