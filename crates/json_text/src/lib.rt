@@ -6,6 +6,7 @@ mod checking;
 mod elements;
 mod judge;
 mod machine;
+mod members;
 mod nest;
 mod node;
 mod skip;
@@ -15,4 +16,5 @@ mod trim;
 
 pub use crate::checking::{JsonCode, JsonFault, check};
 pub use crate::elements::Elements;
+pub use crate::members::Members;
 pub use crate::node::{JsonNode, Kind};
