@@ -1,22 +1,23 @@
 -- The member that comes next.
-use Rattle.std.proofs.Common.{◌≡◌, ℕ, zero, suc, ◌+◌, ◌-◌, ◌<◌, ◌≤◌, Bool, true, false, cond, ◌==◌, List, [], ◌∷◌, ◌++◌, length, take, drop, get_or, lit<, add-one, drop-cons, length-drop, length-append, get_or-drop, refl, sym, ◌∙◌, ap, subst, arith}
-use Rattle.std.specs.Prelude.{slice_range}
+use Rattle.std.proofs.Common.{◌≡◌, ℕ, zero, suc, ◌+◌, ◌-◌, ◌<◌, ◌≤◌, Bool, true, false, cond, ◌==◌, List, [], ◌∷◌, ◌++◌, length, take, drop, get_or, lit<, add-one, length-drop, length-append, refl, sym, ◌∙◌, ap, subst, arith}
+use Rattle.std.specs.Prelude.{slice_range, slice_get, Some}
+use Rattle.text_view.specs.JsonString.{unescaped_text}
 use Rattle.std.proofs.Math.Bridge.{le_prop}
 use Rattle.std.proofs.Math.Logic.{∥∥₁_elim, ∥∥₁_map}
 use Rattle.std.proofs.Math.Seq.{take-append_seam}
 use Rattle.std.proofs.lemmas.Str.{IsCharBoundary-before_ascii, IsCharBoundary-after_ascii}
-use Rattle.std.specs.Str.{IsCharBoundary, IsUtf8}
+use Rattle.std.specs.Str.{IsCharBoundary, IsUtf8, chars}
 use Rattle.std.proofs.lemmas.Bool.Decides.{nat_tests}
-use Rattle.json_text.specs.Grammar.{Json, Element, element, Member, member, Members, no_members, more_members, print, print_element, print_member, print_members, IsValue, IsElement, IsMember, AreMembers, AreBlanks, IsInside, is_blank}
+use Rattle.json_text.specs.Grammar.{Json, null, truth, number, string, empty_array, array, empty_object, object, Number, unsigned, negative, zero_int, nonzero_int, print_number, IsNumber, element, Member, member, Members, no_members, more_members, print, print_element, print_member, print_members, IsValue, IsMember, AreMembers, AreBlanks, IsInside, is_nonzero_digit}
 use Rattle.json_text.specs.Texts.{levels}
 use Rattle.json_text.specs.Trimmed.{skip_blanks}
-use Rattle.json_text.specs.Skipped.{value_rest, string_rest}
+use Rattle.json_text.specs.Skipped.{string_rest}
 use Rattle.json_text.specs.Nodes.{IsNode, Spells}
 use Rattle.json_text.specs.Walks.{Cursor, comma_place}
-use Rattle.json_text.specs.Naming.{Named, value_place, members_from, members_of, IsClosed, no_bytes, at_brace, Coming, member_due, members_over, IsFirstMember, SplitMember, IsMemberWalk}
+use Rattle.json_text.specs.Naming.{Named, value_place, members_from, members_of, IsClosed, no_bytes, at_brace, Coming, member_due, members_over, IsFirstMember, SplitMember, IsMemberWalk, IsMemberAt, object_start}
 use Rattle.json_text.proofs.Prints.{skip_app}
 use Rattle.json_text.proofs.Skips.{Stops, inside_rest}
-use Rattle.json_text.proofs.Walking.{behind_drop, byte_at, Head, Walked, Met, met, comma_yes, comma_no, drop_all, is_node}
+use Rattle.json_text.proofs.Walking.{behind_drop, byte_at, Head, Walked, met, comma_yes, drop_all, is_node}
 
 -- a walk that found a name's opening quotation mark, the place behind its closing one, and the colon
 pub record Named_ (bytes : List ℕ) (at quote close colon : ℕ) : Type 0 where
@@ -236,3 +237,74 @@ module _ (text : List ℕ) (at ns ne start end next : ℕ) (f : (items : List Na
       let y : Coming (record { text = text; at = at }) items = subst (λ c. Coming c items) (sym e) x in
       subst (λ s. IsFirstMember items s start node (record { text = text; at = next })) (sym m)
       (subst (λ t. IsFirstMember items (slice_range text ns ne) start t (record { text = text; at = next })) (sym n) (f items y).first)
+
+-- ---- where a walk begins
+
+none_from : (s : List ℕ) → Coming (record { text = s; at = length s }) []
+none_from s = members_over (no_bytes (drop_all s)) refl
+
+nonzero_no_object : (d : ℕ) → is_nonzero_digit d ≡ true → (d == 123) ≡ false
+nonzero_no_object d h = grind (arith, nat_tests)
+
+number_walk : (n : Number) → IsNumber n → object_start (print_number n []) ≡ length (print_number n [])
+number_walk (unsigned zero_int f e) h = refl
+number_walk (unsigned (nonzero_int d ds) f e) h = ap (λ t. cond t 1 (length (print_number (unsigned (nonzero_int d ds) f e) []))) (nonzero_no_object d h.0.0)
+number_walk (negative i f e) h = refl
+
+value_walk : (v : Json) → IsValue levels 0 v → Coming (record { text = print v []; at = object_start (print v []) }) (members_of v)
+unfolding print IsValue
+value_walk null h = none_from (print null [])
+value_walk (truth true) h = none_from (print (truth true) [])
+value_walk (truth false) h = none_from (print (truth false) [])
+value_walk (number n) h = subst (λ k. Coming (record { text = print_number n []; at = k }) []) (sym (number_walk n h)) (none_from (print_number n []))
+value_walk (string raw) h = none_from (print (string raw) [])
+value_walk (empty_array b) h = none_from (print (empty_array b) [])
+value_walk (array x xs) h = none_from (print (array x xs) [])
+value_walk (empty_object b) h = members_over (at_brace b h.1 refl) refl
+value_walk (object m ms) h = member_due m ms h.1 h.2 refl refl
+
+pub begins_members : (bytes : List ℕ) (at : ℕ) → at ≡ object_start bytes → (tree : Json) → Spells bytes tree → Coming (record { text = bytes; at = at }) (members_of tree)
+begins_members bytes at e tree x =
+    let there : Coming (record { text = bytes; at = object_start bytes }) (members_of tree) =
+    subst (λ s. Coming (record { text = s; at = object_start s }) (members_of tree)) (sym x.spelled) (value_walk tree x.valid) in
+    subst (λ k. Coming (record { text = bytes; at = k }) (members_of tree)) (sym e) there
+
+start_within : (t : Bool) (n : ℕ) → cond t 1 (suc n) ≤ suc n
+start_within true n = omega arith
+start_within false n = omega arith
+
+object_within : (bytes : List ℕ) → object_start bytes ≤ length bytes
+object_within [] = omega arith
+object_within (c ∷ cs) = start_within (c == 123) (length cs)
+
+pub members_invariant : (text bytes : List ℕ) (at : ℕ) → at ≡ object_start bytes → bytes ≡ text → ∥ IsNode text ∥₁ → (at ≤ length text) × ∥ IsMemberWalk (record { text = text; at = at }) ∥₁
+members_invariant text bytes at e same n =
+    let is : at ≡ object_start text = e ∙ ap object_start same in
+    let within : at ≤ length text = subst (λ k. k ≤ length text) (sym is) (object_within text) in
+    (within, ∥∥₁_map n (λ x. record { items = members_of x.tree; ahead = begins_members text at is x.tree x.spells }))
+
+-- ---- an index
+
+pub past_members : (items : List Named) (i k : ℕ) → drop i items ≡ [] → i ≤ k → length items ≤ k
+past_members items i k e h = omega (arith, length-drop i items, ap length e)
+
+one_passed : (items others : List Named) (i : ℕ) (p : Named) → drop i items ≡ p ∷ others → others ≡ drop (i + 1) items
+one_passed [] others zero p e = absurd (cc)
+one_passed [] others (suc i) p e = absurd (cc)
+one_passed (q ∷ qs) others zero p e = let same : others ≡ qs = cc in same
+one_passed (q ∷ qs) others (suc i) p e = one_passed qs others i p e ∙ ap (λ k. drop k qs) (add-one i) ∙ ap (λ k. drop k (q ∷ qs)) (sym (add-one (suc i)))
+
+at_index : (items others : List Named) (i : ℕ) (p : Named) → drop i items ≡ p ∷ others → slice_get items i ≡ Some p
+at_index [] others zero p e = absurd (cc)
+at_index [] others (suc i) p e = absurd (cc)
+at_index (q ∷ qs) others zero p e = let same : q ≡ p = cc in ap Some same
+at_index (q ∷ qs) others (suc i) p e = at_index qs others i p e
+
+pub goes_on : (items : List Named) (i place : ℕ) (name node : List ℕ) (next : Cursor) → IsFirstMember (drop i items) name place node next → Coming next (drop (i + 1) items)
+goes_on items i place name node next f = subst (Coming next) (one_passed items f.others i (record { name = name; place = place; value = f.first }) f.whole) f.ahead
+
+pub member_is_at : (items : List Named) (i k place : ℕ) (name node text : List ℕ) (next : Cursor) → i ≡ k → IsFirstMember (drop i items) name place node next
+    → text ≡ unescaped_text (chars name) → IsMemberAt (slice_get items k) text node
+member_is_at items i k place name node text next e f t =
+    let whole : drop k items ≡ record { name = name; place = place; value = f.first } ∷ f.others = ap (λ n. drop n items) (sym e) ∙ f.whole in
+    rw (at_index items f.others k (record { name = name; place = place; value = f.first }) whole) (t, f.same)

@@ -1,7 +1,8 @@
 -- The members of an object in order, each with its name and its value's place, and a walk over them.
-use Rattle.std.specs.Prelude.{◌≡◌, ℕ, ◌+◌, ◌≤◌, List, [], ◌∷◌, ◌++◌, length, drop, slice_range}
-use Rattle.std.specs.Str.{IsCharBoundary}
-use Rattle.json_text.specs.Grammar.{Json, null, truth, number, string, empty_array, array, empty_object, object, element, Member, member, Members, no_members, more_members, print, print_member, print_members, IsMember, AreMembers, AreBlanks}
+use Rattle.std.specs.Prelude.{◌≡◌, ℕ, ◌+◌, ◌≤◌, List, [], ◌∷◌, ◌++◌, length, drop, slice_range, ◌==◌, if◌then◌else◌, Option, None, Some}
+use Rattle.text_view.specs.JsonString.{unescaped_text}
+use Rattle.std.specs.Str.{IsCharBoundary, chars}
+use Rattle.json_text.specs.Grammar.{Json, object, element, Member, member, Members, no_members, more_members, print, print_member, print_members, IsMember, AreMembers, AreBlanks}
 use Rattle.json_text.specs.Texts.{levels}
 use Rattle.json_text.specs.Nodes.{IsNode}
 use Rattle.json_text.specs.Walks.{Cursor}
@@ -64,3 +65,13 @@ pub record SplitMember (bytes : List ℕ) (items : List Named) (name_start name_
 pub record IsMemberWalk (cursor : Cursor) : Type 0 where
   pub items : List Named
   pub ahead : Coming cursor items
+
+-- behind an object's bracket, or the end of another value
+abbrev pub object_start : List ℕ → ℕ
+object_start [] = 0
+object_start (c ∷ cs) = if c == 123 then 1 else length (c ∷ cs)
+
+-- text and node are the name and the value of the member at that index
+abbrev pub IsMemberAt : Option Named → List ℕ → List ℕ → Type 0
+IsMemberAt None text node = ⊥
+IsMemberAt (Some m) text node = (text ≡ unescaped_text (chars m.name)) × (node ≡ print m.value [])

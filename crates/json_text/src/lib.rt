@@ -16,5 +16,4 @@ mod trim;
 
 pub use crate::checking::{JsonCode, JsonFault, check};
 pub use crate::elements::Elements;
-pub use crate::members::Members;
 pub use crate::node::{JsonNode, Kind};

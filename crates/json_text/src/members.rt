@@ -1,9 +1,11 @@
 //! The members of an object, one after the other.
-ghost use Rattle.std.specs.Prelude.{◌≡◌, ◌≤◌, ◌<◌, ◌+◌, [], List, ℕ, length, drop, MatchOption, slice_range};
+ghost use Rattle.std.specs.Prelude.{◌≡◌, ◌≤◌, ◌<◌, ◌+◌, [], List, ℕ, length, drop, MatchOption, slice_range, slice_get};
 ghost use Rattle.std.specs.Str.{IsCharBoundary, IsUtf8, chars};
 ghost use Rattle.text_view.specs.JsonString.{unescaped_text};
 ghost use Rattle.json_text.specs.Walks.{Cursor};
-ghost use Rattle.json_text.specs.Naming.{Named, Coming, IsFirstMember, SplitMember, members_of};
+ghost use Rattle.json_text.specs.Naming.{Named, Coming, IsFirstMember, SplitMember, members_of, object_start, IsMemberAt};
+ghost use Rattle.json_text.specs.Grammar.{Json};
+ghost use Rattle.json_text.specs.Nodes.{Spells};
 
 use crate::elements::behind_comma;
 use crate::node::JsonNode;
@@ -14,7 +16,7 @@ use text_view::Text;
 
 /// A walk over the members of an object. A contract sees a place in the object's bytes.
 #[derive(Drop)]
-pub struct Members<'r> {
+pub(crate) struct Members<'r> {
     text: &'r str,
     at: usize,
 }
@@ -103,4 +105,44 @@ fn places_of(text: &str, at: usize) -> Option<MemberPlaces>
         end,
         next,
     })
+}
+
+impl<'r> JsonNode<'r> {
+    /// A walk over the members of an object; another value has none.
+    pub(crate) fn members(&self) -> Members<'r>
+        ensures { (tree : Json) → Spells self.now tree → Coming result (members_of tree) }
+    {
+        let text = self.token();
+        let at = first_name(text.as_bytes());
+        Members { text, at }
+    }
+
+    /// The name and the value of the member at index `k` from 0 on; a value that is no object has none.
+    pub fn member_at(&self, k: u64) -> Option<(Text<'r>, JsonNode<'r>)>
+        ensures { (tree : Json) → Spells self.now tree → MatchOption result
+            (length (members_of tree) ≤ k)
+            (λ p. IsMemberAt (slice_get (members_of tree) k) p.0 p.1) }
+    {
+        let mut walk = self.members();
+        for passed in 0..k {
+            match walk.step() {
+                Some(_) => {}
+                None => return None,
+            }
+        }
+        match walk.step() {
+            Some(part) => Some((Text::json(part.name), part.node)),
+            None => None,
+        }
+    }
+}
+
+/// The place behind an object's bracket, or the end of another value.
+fn first_name(bytes: &[u8]) -> usize
+    ensures { result ≡ object_start bytes.now }
+{
+    match bytes.first() {
+        Some(b'{') => 1,
+        _ => bytes.len(),
+    }
 }

@@ -1,7 +1,6 @@
 use Rattle.std.proofs.Common.{arith, sym, subst, ◌+◌, ◌-◌}
 use Rattle.json_text.specs.Naming.{Coming, SplitMember}
-use Rattle.json_text.proofs.Walking.{Walked}
-use Rattle.json_text.proofs.Membered.{Named_, none_left, none_behind, none_colon, member_of}
+use Rattle.json_text.proofs.Membered.{none_left, none_behind, none_colon, member_of}
 use Rattle.json_text.proofs.members.places_of.Goals as goal
 
 pub returns-then-quote-bytes : goal.returns-then-quote-bytes
