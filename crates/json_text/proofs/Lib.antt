@@ -12,3 +12,4 @@ pub mod Checks
 pub mod Skips
 pub mod Walking
 pub mod Quoted
+pub mod Membered

@@ -168,13 +168,13 @@ met bytes at start end behind before v gap tail l d w hb hv hg stops front head 
       ends = head_boundary bytes end w.end_within (subst Head (sym two) (blanks_head gap tail hg head));
     }
 
-comma_yes : (bytes : List ℕ) (k : ℕ) → k < length bytes → get_or bytes k 0 ≡ 44 → comma_place bytes k ≡ k + 1
+pub comma_yes : (bytes : List ℕ) (k : ℕ) → k < length bytes → get_or bytes k 0 ≡ 44 → comma_place bytes k ≡ k + 1
 comma_yes bytes k l e = grind (arith, nat_tests)
 
-comma_no : (bytes : List ℕ) (k : ℕ) → get_or bytes k 0 ≡ 93 → comma_place bytes k ≡ length bytes
+pub comma_no : (bytes : List ℕ) (k : ℕ) → get_or bytes k 0 ≡ 93 → comma_place bytes k ≡ length bytes
 comma_no bytes k e = grind (arith, nat_tests)
 
-drop_all : (s : List ℕ) → drop (length s) s ≡ []
+pub drop_all : (s : List ℕ) → drop (length s) s ≡ []
 drop_all [] = refl
 drop_all (x ∷ xs) = drop_all xs
 
@@ -238,7 +238,7 @@ not_over bytes at start s l h (at_end e) = absurd (omega (arith, behind_drop byt
 not_over bytes at start s l h (at_bracket blanks b e) =
     h (byte_at bytes [] start 93 (omega arith) (s ∙ ap skip_blanks e ∙ skip_app blanks (93 ∷ []) b)).1
 
-is_node : (v : Json) (token : List ℕ) → IsValue levels 1 v → token ≡ print v [] → IsNode token
+pub is_node : (v : Json) (token : List ℕ) → IsValue levels 1 v → token ≡ print v [] → IsNode token
 is_node v token h e = record { tree = v; spells = record { valid = value_weaker v levels 0 h; spelled = e } }
 
 split_due : (bytes : List ℕ) (at start end behind next : ℕ) (items : List Placed) (e : Element) (es : Elements) → Walked bytes at start end behind

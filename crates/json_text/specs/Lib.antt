@@ -1,6 +1,7 @@
 pub mod Grammar
 pub mod Judged
 pub mod Machine
+pub mod Naming
 pub mod Nodes
 pub mod Skipped
 pub mod Texts

@@ -27,7 +27,7 @@ pub(crate) enum Class {
     Other,
 }
 
-#[inline]
+#[inline(always)]
 pub(crate) fn class_of(byte: u8) -> Class
     ensures { result ≡ class byte }
 {
@@ -54,7 +54,7 @@ pub(crate) fn class_of(byte: u8) -> Class
 }
 
 /// The letter of a short escape.
-#[inline]
+#[inline(always)]
 pub(crate) fn is_escape_letter(byte: u8) -> bool
     ensures { result ≡ is_letter byte }
 {
@@ -65,7 +65,7 @@ pub(crate) fn is_escape_letter(byte: u8) -> bool
 }
 
 /// The value of a digit or a letter, from 0 to 35, else 36.
-#[inline]
+#[inline(always)]
 fn digit_of(byte: u8) -> u8
     ensures { result ≡ digit_value byte }
 {
@@ -86,7 +86,7 @@ fn digit_of(byte: u8) -> u8
     }
 }
 
-#[inline]
+#[inline(always)]
 pub(crate) fn is_hex(byte: u8) -> bool
     ensures { result ≡ is_hex_digit byte }
 {
@@ -94,14 +94,14 @@ pub(crate) fn is_hex(byte: u8) -> bool
 }
 
 /// The digit with which the code of a surrogate begins.
-#[inline]
+#[inline(always)]
 pub(crate) fn is_surrogate_digit(byte: u8) -> bool
     ensures { result ≡ is_d byte }
 {
     digit_of(byte) == 13
 }
 
-#[inline]
+#[inline(always)]
 pub(crate) fn is_below_8(byte: u8) -> bool
     ensures { result ≡ is_eight_less byte }
 {
@@ -109,7 +109,7 @@ pub(crate) fn is_below_8(byte: u8) -> bool
 }
 
 /// The second digit of the first half of a pair, where it isn't below 8.
-#[inline]
+#[inline(always)]
 pub(crate) fn is_high_digit(byte: u8) -> bool
     ensures { result ≡ is_high_third byte }
 {
@@ -117,7 +117,7 @@ pub(crate) fn is_high_digit(byte: u8) -> bool
 }
 
 /// The second digit of the second half of a pair.
-#[inline]
+#[inline(always)]
 pub(crate) fn is_low_digit(byte: u8) -> bool
     ensures { result ≡ is_low_third byte }
 {

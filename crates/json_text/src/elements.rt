@@ -75,7 +75,7 @@ pub(crate) fn part_of(bytes: &[u8], at: usize) -> Option<Part>
 }
 
 /// The place behind a comma, or else the end.
-fn behind_comma(bytes: &[u8], at: usize) -> usize
+pub(crate) fn behind_comma(bytes: &[u8], at: usize) -> usize
     requires { at ≤ length bytes.now }
     ensures { result ≡ comma_place bytes.now at }
 {

@@ -40,7 +40,7 @@ pub(crate) fn judge(bytes: &[u8]) -> Judged
 }
 
 /// Takes a byte.
-#[inline]
+#[inline(always)]
 #[tactic(auto, unfolding(crate::specs::Machine::verdict))]
 fn take(mode: Mode, nest: &mut Nest, byte: u8) -> Taken
     ensures { (rest : List ℕ) (at : ℕ) → verdict (byte ∷ rest) mode nest.old at

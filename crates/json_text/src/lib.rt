@@ -6,6 +6,7 @@ mod checking;
 mod elements;
 mod judge;
 mod machine;
+mod members;
 mod nest;
 mod node;
 mod skip;

@@ -103,7 +103,7 @@ pub(crate) enum Move {
 }
 
 /// What a byte does to the reader.
-#[inline]
+#[inline(always)]
 #[tactic(auto, unfolding(crate::specs::Machine::step))]
 pub(crate) fn step_of(mode: Mode, around: Around, byte: u8) -> Move
     ensures { result ≡ step mode around byte }
@@ -122,7 +122,7 @@ pub(crate) fn step_of(mode: Mode, around: Around, byte: u8) -> Move
     }
 }
 
-#[inline]
+#[inline(always)]
 fn value(class: Class) -> Move
     ensures { result ≡ value_move class }
 {
@@ -141,7 +141,7 @@ fn value(class: Class) -> Move
     }
 }
 
-#[inline]
+#[inline(always)]
 fn first_element(class: Class) -> Move
     ensures { result ≡ first_element_move class }
 {
@@ -152,7 +152,7 @@ fn first_element(class: Class) -> Move
     }
 }
 
-#[inline]
+#[inline(always)]
 fn name(class: Class) -> Move
     ensures { result ≡ name_move class }
 {
@@ -163,7 +163,7 @@ fn name(class: Class) -> Move
     }
 }
 
-#[inline]
+#[inline(always)]
 fn first_name(class: Class) -> Move
     ensures { result ≡ first_name_move class }
 {
@@ -174,7 +174,7 @@ fn first_name(class: Class) -> Move
     }
 }
 
-#[inline]
+#[inline(always)]
 fn colon(class: Class) -> Move
     ensures { result ≡ colon_move class }
 {
@@ -185,7 +185,7 @@ fn colon(class: Class) -> Move
     }
 }
 
-#[inline]
+#[inline(always)]
 fn after(around: Around, class: Class) -> Move
     ensures { result ≡ after_move around class }
 {
@@ -204,7 +204,7 @@ fn after(around: Around, class: Class) -> Move
     }
 }
 
-#[inline]
+#[inline(always)]
 fn behind_comma(around: Around) -> Move
     ensures { result ≡ comma_move around }
 {
@@ -215,7 +215,7 @@ fn behind_comma(around: Around) -> Move
     }
 }
 
-#[inline]
+#[inline(always)]
 fn number(digits: Digits, around: Around, class: Class) -> Move
     ensures { result ≡ number_move digits around class }
 {
@@ -261,7 +261,7 @@ fn number(digits: Digits, around: Around, class: Class) -> Move
     }
 }
 
-#[inline]
+#[inline(always)]
 fn word(letters: Letters, byte: u8) -> Move
     ensures { result ≡ word_move letters byte }
 {
@@ -278,14 +278,14 @@ fn word(letters: Letters, byte: u8) -> Move
     }
 }
 
-#[inline]
+#[inline(always)]
 fn letter(is: bool, next: Mode) -> Move
     ensures { result ≡ letter_move is next }
 {
     if is { Move::To(next) } else { Move::Refuse }
 }
 
-#[inline]
+#[inline(always)]
 fn in_text(part: Part, byte: u8) -> Move
     ensures { result ≡ text_move part byte }
 {
@@ -298,7 +298,7 @@ fn in_text(part: Part, byte: u8) -> Move
     }
 }
 
-#[inline]
+#[inline(always)]
 fn in_name(part: Part, byte: u8) -> Move
     ensures { result ≡ in_name_move part byte }
 {
@@ -312,7 +312,7 @@ fn in_name(part: Part, byte: u8) -> Move
 }
 
 /// Whether the byte ends the string.
-#[inline]
+#[inline(always)]
 fn closed_by(part: Part, byte: u8) -> bool
     ensures { result ≡ closes part byte }
 {
@@ -323,7 +323,7 @@ fn closed_by(part: Part, byte: u8) -> bool
 }
 
 /// How far the string is read with one byte more of its inside.
-#[inline]
+#[inline(always)]
 pub(crate) fn next_part(part: Part, byte: u8) -> Option<Part>
     ensures { result ≡ part_next part byte }
 {
@@ -380,7 +380,7 @@ fn next_in_escape(part: Part, byte: u8) -> Option<Part>
     }
 }
 
-#[inline]
+#[inline(always)]
 fn next_if(is: bool, next: Part) -> Option<Part>
     ensures { result ≡ part_if is next }
 {

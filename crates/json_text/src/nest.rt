@@ -34,7 +34,7 @@ impl Nest {
         Nest { bits: 0, depth: 0 }
     }
 
-    #[inline]
+    #[inline(always)]
     pub(crate) fn is_empty(&self) -> bool
         ensures { result ≡ is_outside self.now }
     {
@@ -42,7 +42,7 @@ impl Nest {
     }
 
     /// The innermost open bracket.
-    #[inline]
+    #[inline(always)]
     pub(crate) fn around(&self) -> Around
         ensures { result ≡ around_of self.now }
     {
@@ -56,7 +56,7 @@ impl Nest {
     }
 
     /// Opens an array, or nothing where no level is left.
-    #[inline]
+    #[inline(always)]
     pub(crate) fn open_array(&mut self) -> bool
         ensures room { result ≡ nat_lt (length self.old) levels }
         ensures opened { self.new ≡ (if result then true ∷ self.old else self.old) }
@@ -70,7 +70,7 @@ impl Nest {
     }
 
     /// Opens an object, or nothing where no level is left.
-    #[inline]
+    #[inline(always)]
     pub(crate) fn open_object(&mut self) -> bool
         ensures room { result ≡ nat_lt (length self.old) levels }
         ensures opened { self.new ≡ (if result then false ∷ self.old else self.old) }
@@ -84,7 +84,7 @@ impl Nest {
     }
 
     /// Closes the innermost bracket, if one is open.
-    #[inline]
+    #[inline(always)]
     pub(crate) fn close(&mut self)
         ensures { self.new ≡ behind_close self.old }
     {

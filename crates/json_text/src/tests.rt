@@ -74,6 +74,19 @@ fn faults_kinds_and_elements(rt: HostRuntime) -> Result<(), Fail> {
         &[(1, "1"), (4, "\"]\\\"\""), (10, "[2]")],
     );
     walks(&rt, "{}", &[]);
+    match check(b"{ \"a\\n\" : 1,\"b\":{}}") {
+        Ok(node) => {
+            match node.member_at(1) {
+                Some((name, value)) => {
+                    assert!(rt; name.equals("b"));
+                    assert_eq!(rt; value.kind(), Kind::Object);
+                }
+                None => assert!(rt; false),
+            }
+            assert!(rt; node.member_at(2).is_none());
+        }
+        Err(_) => assert!(rt; false),
+    }
     match check(b"\"a\\u00e9\"") {
         Ok(node) => {
             assert!(rt; node.again().text().is_some());
