@@ -3,20 +3,20 @@ use Rattle.std.specs.Prelude.{ℕ, true, List, [], ◌∷◌, Option, Some, None
 use Rattle.sql_tokens.specs.declared.class.Class.{Class}
 use Rattle.sql_tokens.specs.declared.class.Class.TheVariants as k
 use Rattle.sql_tokens.specs.Cutting.{Symbol}
-use Rattle.select_sql.specs.declared.tree.Expr.{Expr}
-use Rattle.select_sql.specs.declared.tree.Name.{Name}
-use Rattle.select_sql.specs.declared.tree.Agg.{Agg}
-use Rattle.select_sql.specs.declared.tree.Agg.TheVariants as agg
-use Rattle.select_sql.specs.declared.tree.Item.{Item}
-use Rattle.select_sql.specs.declared.tree.Total.{Total}
-use Rattle.select_sql.specs.declared.tree.Selection.{Selection}
-use Rattle.select_sql.specs.declared.tree.Selection.TheVariants as selection
-use Rattle.select_sql.specs.declared.tree.Step.{Step}
-use Rattle.select_sql.specs.declared.tree.Step.TheVariants as step
+use Rattle.sql_grammar.specs.declared.tree.Expr.{Expr}
+use Rattle.sql_grammar.specs.declared.tree.Name.{Name}
+use Rattle.sql_grammar.specs.declared.tree.Agg.{Agg}
+use Rattle.sql_grammar.specs.declared.tree.Agg.TheVariants as agg
+use Rattle.sql_grammar.specs.declared.tree.Item.{Item}
+use Rattle.sql_grammar.specs.declared.tree.Total.{Total}
+use Rattle.sql_grammar.specs.declared.tree.Selection.{Selection}
+use Rattle.sql_grammar.specs.declared.tree.Selection.TheVariants as selection
+use Rattle.sql_grammar.specs.declared.tree.Step.{Step}
+use Rattle.sql_grammar.specs.declared.tree.Step.TheVariants as step
 use Rattle.grammar_rules.specs.Rules.{Rule, told, terminal, token, nothing, made, begun, sequence, alternatives, either, optional, preceded_by}
 use Rattle.grammar_rules.specs.Counted.{Counted, plain, given, both, after, past, before, maybe, many_from, chain, item as one_of_list, list_of}
-use Rattle.select_sql.specs.Marks.{Fault, unknown_function, aggregate_mixed, unsupported_type, too_many, class, of, name, digits, is_source, Form, unknown_call, exponent_form, form_of}
-use Rattle.select_sql.specs.Expressions.{Counting, enclosed, over_class, path_name, expression}
+use Rattle.sql_grammar.specs.Marks.{Fault, unknown_function, aggregate_mixed, unsupported_type, too_many, class, of, name, digits, is_source, Form, unknown_call, exponent_form, form_of}
+use Rattle.sql_grammar.specs.Expressions.{Counting, enclosed, over_class, path_name, expression}
 
 -- ---- names
 

@@ -6,9 +6,9 @@ use Rattle.sql_tokens.specs.declared.class.Class.TheVariants as k
 use Rattle.sql_tokens.specs.Classes.{same_class, all_classes}
 use Rattle.sql_tokens.specs.Cutting.{Symbol}
 use Rattle.sql_tokens.proofs.ClassLaws.{every}
-use Rattle.select_sql.specs.declared.tree.Expr.{Expr}
-use Rattle.select_sql.specs.declared.tree.Expr.TheVariants as e
-use Rattle.select_sql.specs.declared.tree.PathStep.TheVariants as step
+use Rattle.sql_grammar.specs.declared.tree.Expr.{Expr}
+use Rattle.sql_grammar.specs.declared.tree.Expr.TheVariants as e
+use Rattle.sql_grammar.specs.declared.tree.PathStep.TheVariants as step
 use Rattle.grammar_rules.specs.Rules.{Rule, Verdict, takes, faults, refuses, token, nothing, made, either, preceded_by}
 use Rattle.grammar_rules.specs.Readers.{Outcome, found, failed, read_made, read_terminal, read_fault, read_past, read_either}
 use Rattle.grammar_rules.specs.Counted.{plain, given}
@@ -19,15 +19,15 @@ use Rattle.grammar_rules.proofs.Reading.{Reads, past_sight, reads-nothing, reads
 use Rattle.grammar_rules.proofs.Choices.{either_sight, reads-either}
 use Rattle.grammar_rules.proofs.Begun.{reads-begun}
 use Rattle.grammar_rules.proofs.Classes.{distinct_by, reads_by}
-use Rattle.select_sql.proofs.Combining.{on, Readable, is, one, seen, seen_those, seen_word, reads_terminal, plainly, as_given}
-use Rattle.select_sql.specs.Marks.{Fault, too_deep, too_many, class, of, is_name, is_path_name, begins_expression, name_of, path_form}
-use Rattle.select_sql.specs.Expressions.{Counting, Room, room_of, word, path_step, path_name, or_node, and_node, sum_node, prod_node, over_class}
-use Rattle.select_sql.specs.Readers.{Reader, begins, read_flag, is_step, read_path_step, read_path_name, read_path, is_prod_op, is_sum_op, read_primary_of, read_primary, read_unary, read_prod_part, read_prod, read_sum_part, read_sum, read_pred, read_negation, read_conjunction, read_disjunction, read_expression}
-use Rattle.select_sql.specs.declared.tree.Name.{Name}
+use Rattle.sql_grammar.proofs.Combining.{on, Readable, is, one, seen, seen_those, seen_word, reads_terminal, plainly, as_given}
+use Rattle.sql_grammar.specs.Marks.{Fault, too_deep, too_many, class, of, is_name, is_path_name, begins_expression, name_of, path_form}
+use Rattle.sql_grammar.specs.Expressions.{Counting, Room, room_of, word, path_step, path_name, or_node, and_node, sum_node, prod_node, over_class}
+use Rattle.sql_grammar.specs.Readers.{Reader, begins, read_flag, is_step, read_path_step, read_path_name, read_path, is_prod_op, is_sum_op, read_primary_of, read_primary, read_unary, read_prod_part, read_prod, read_sum_part, read_sum, read_pred, read_negation, read_conjunction, read_disjunction, read_expression}
+use Rattle.sql_grammar.specs.declared.tree.Name.{Name}
 use Rattle.grammar_rules.specs.CountedReaders.{read_item}
 use Rattle.grammar_rules.specs.Readers.{read_ahead}
-use Rattle.select_sql.specs.Queries.{Selected, everything, everything_of, selected, items, all_of_name, selection_list}
-use Rattle.select_sql.specs.QueryReaders.{read_row, read_rows, read_items, read_all_of_name, read_list}
+use Rattle.sql_grammar.specs.Queries.{Selected, everything, everything_of, selected, items, all_of_name, selection_list}
+use Rattle.sql_grammar.specs.QueryReaders.{read_row, read_rows, read_items, read_all_of_name, read_list}
 use Rattle.std.proofs.Common.{◌++◌, ◌⊎◌, inl, inr}
 use Rattle.sql_tokens.specs.TokenForms.{punctuation}
 use Rattle.grammar_rules.specs.Rules.{Last, fits, faulty, FrontOfOne}
@@ -37,9 +37,9 @@ use Rattle.grammar_rules.proofs.Counts.{one_more_taken}
 use Rattle.grammar_rules.proofs.CountedMany.{counted_shrinks, chain_begin, chain_fail, links_fail}
 use Rattle.grammar_rules.proofs.Begun.{FrontBehind, no_symbol, one_symbol, front_behind, TextBehind, text_behind, begun_text, begun_front, past_text, past_front}
 use Rattle.grammar_rules.proofs.Ahead.{Ahead, ahead_sight, refused_no_front, reads-ahead}
-use Rattle.select_sql.proofs.PartReads.{reads-path_step}
-use Rattle.select_sql.proofs.Primaries.{begun_by}
-use Rattle.select_sql.proofs.ItemReads.{items_sight, reads-items}
+use Rattle.sql_grammar.proofs.PartReads.{reads-path_step}
+use Rattle.sql_grammar.proofs.Primaries.{begun_by}
+use Rattle.sql_grammar.proofs.ItemReads.{items_sight, reads-items}
 
 -- ---- what a name's class isn't
 

@@ -5,7 +5,7 @@ use Rattle.sql_tokens.specs.declared.class.Class.TheVariants as k
 use Rattle.sql_tokens.specs.Classes.{same_class, all_classes}
 use Rattle.sql_tokens.specs.Cutting.{Symbol}
 use Rattle.sql_tokens.proofs.ClassLaws.{every}
-use Rattle.select_sql.specs.declared.tree.Expr.{Expr}
+use Rattle.sql_grammar.specs.declared.tree.Expr.{Expr}
 use Rattle.grammar_rules.specs.Rules.{Rule, made}
 use Rattle.grammar_rules.specs.Readers.{Outcome, read_made}
 use Rattle.grammar_rules.specs.Counted.{given, both}
@@ -14,22 +14,22 @@ use Rattle.grammar_rules.proofs.Clear.{Sight}
 use Rattle.grammar_rules.proofs.Sequences.{sequence_sight}
 use Rattle.grammar_rules.proofs.Reading.{reads-made, reads-past, reads-sequence}
 use Rattle.grammar_rules.proofs.Classes.{apart_by, reads_by}
-use Rattle.select_sql.proofs.Combining.{on, Readable, is, seen}
-use Rattle.select_sql.specs.Marks.{Fault, class, of}
-use Rattle.select_sql.specs.declared.tree.Name.{Name}
-use Rattle.select_sql.specs.declared.tree.Step.{Step}
-use Rattle.select_sql.specs.Queries.{Selected, selection_list, Written, written_of, whole_query, query}
-use Rattle.select_sql.specs.QueryReaders.{read_list, read_behind_list, read_whole_query, read_query}
+use Rattle.sql_grammar.proofs.Combining.{on, Readable, is, seen}
+use Rattle.sql_grammar.specs.Marks.{Fault, class, of}
+use Rattle.sql_grammar.specs.declared.tree.Name.{Name}
+use Rattle.sql_grammar.specs.declared.tree.Step.{Step}
+use Rattle.sql_grammar.specs.Queries.{Selected, selection_list, Written, written_of, whole_query, query}
+use Rattle.sql_grammar.specs.QueryReaders.{read_list, read_behind_list, read_whole_query, read_query}
 use Rattle.std.proofs.Common.{length}
 use Rattle.grammar_rules.specs.Places.{Answer, AnswersNamed}
 use Rattle.grammar_rules.specs.Readers.{answer_named}
 use Rattle.grammar_rules.proofs.Right.{Right}
 use Rattle.grammar_rules.proofs.Answering.{answers_named}
 use Rattle.grammar_rules.proofs.OneAnswer.{one_named_answer}
-use Rattle.select_sql.specs.Faults.{misplaced}
-use Rattle.select_sql.proofs.ItemReads.{items_sight}
-use Rattle.select_sql.proofs.NamedAll.{reads-list}
-use Rattle.select_sql.proofs.SourceReads.{behind_list, behind_sight, reads-behind_list}
+use Rattle.sql_grammar.specs.Faults.{misplaced}
+use Rattle.sql_grammar.proofs.ItemReads.{items_sight}
+use Rattle.sql_grammar.proofs.NamedAll.{reads-list}
+use Rattle.sql_grammar.proofs.SourceReads.{behind_list, behind_sight, reads-behind_list}
 
 abbrev list_sight_of : Sight Class
 list_sight_of = seen (λ c. is k.Star c || items_sight.first c) (λ c. is k.Star c || items_sight.more c)

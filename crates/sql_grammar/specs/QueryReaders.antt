@@ -3,24 +3,24 @@ use Rattle.std.specs.Prelude.{ℕ, Bool, true, List, [], ◌∷◌, Option, is_s
 use Rattle.sql_tokens.specs.declared.class.Class.{Class}
 use Rattle.sql_tokens.specs.declared.class.Class.TheVariants as k
 use Rattle.sql_tokens.specs.Cutting.{Symbol}
-use Rattle.select_sql.specs.declared.tree.Expr.{Expr}
-use Rattle.select_sql.specs.declared.tree.Name.{Name}
-use Rattle.select_sql.specs.declared.tree.Agg.{Agg}
-use Rattle.select_sql.specs.declared.tree.Agg.TheVariants as agg
-use Rattle.select_sql.specs.declared.tree.Item.{Item}
-use Rattle.select_sql.specs.declared.tree.Total.{Total}
-use Rattle.select_sql.specs.declared.tree.Selection.{Selection}
-use Rattle.select_sql.specs.declared.tree.Selection.TheVariants as selection
-use Rattle.select_sql.specs.declared.tree.Step.{Step}
-use Rattle.select_sql.specs.declared.tree.Step.TheVariants as step
+use Rattle.sql_grammar.specs.declared.tree.Expr.{Expr}
+use Rattle.sql_grammar.specs.declared.tree.Name.{Name}
+use Rattle.sql_grammar.specs.declared.tree.Agg.{Agg}
+use Rattle.sql_grammar.specs.declared.tree.Agg.TheVariants as agg
+use Rattle.sql_grammar.specs.declared.tree.Item.{Item}
+use Rattle.sql_grammar.specs.declared.tree.Total.{Total}
+use Rattle.sql_grammar.specs.declared.tree.Selection.{Selection}
+use Rattle.sql_grammar.specs.declared.tree.Selection.TheVariants as selection
+use Rattle.sql_grammar.specs.declared.tree.Step.{Step}
+use Rattle.sql_grammar.specs.declared.tree.Step.TheVariants as step
 use Rattle.grammar_rules.specs.Rules.{told}
 use Rattle.grammar_rules.specs.Readers.{Outcome, found, and_then, read_made, read_terminal, read_past, read_either, read_optional, read_begun, read_ahead}
 use Rattle.grammar_rules.specs.CountedReaders.{CountedReader, read_plain, read_given, read_both, read_after, read_counted_past, read_counted_before, read_maybe, read_many_from, read_chain, read_item, read_list_of}
-use Rattle.select_sql.specs.Forms.{read_one_of}
-use Rattle.select_sql.specs.Marks.{Fault, class, of, is_name, name, digits, is_source, begins_expression}
-use Rattle.select_sql.specs.Expressions.{word, over_class, path_name}
-use Rattle.select_sql.specs.Queries.{AggForm, count_form, sum_form, min_form, max_form, avg_form, agg_form, mixed_class, over_first, over_total, Selected, everything, everything_of, selected, over_step, Written, written_of}
-use Rattle.select_sql.specs.Readers.{Reader, begins, read_enclosed, is_step, read_expression}
+use Rattle.sql_grammar.specs.Forms.{read_one_of}
+use Rattle.sql_grammar.specs.Marks.{Fault, class, of, is_name, name, digits, is_source, begins_expression}
+use Rattle.sql_grammar.specs.Expressions.{word, over_class, path_name}
+use Rattle.sql_grammar.specs.Queries.{AggForm, count_form, sum_form, min_form, max_form, avg_form, agg_form, mixed_class, over_first, over_total, Selected, everything, everything_of, selected, over_step, Written, written_of}
+use Rattle.sql_grammar.specs.Readers.{Reader, begins, read_enclosed, is_step, read_expression}
 
 -- ---- items of a record
 

@@ -6,7 +6,7 @@ use Rattle.sql_tokens.specs.declared.class.Class.TheVariants as k
 use Rattle.sql_tokens.specs.Classes.{same_class, all_classes}
 use Rattle.sql_tokens.specs.Cutting.{Symbol}
 use Rattle.sql_tokens.proofs.ClassLaws.{every}
-use Rattle.select_sql.specs.declared.tree.Expr.{Expr}
+use Rattle.sql_grammar.specs.declared.tree.Expr.{Expr}
 use Rattle.grammar_rules.specs.Rules.{Rule, takes, refuses, terminal, token, nothing, made, either, optional, preceded_by, Same}
 use Rattle.grammar_rules.specs.Readers.{found, read_made, read_terminal, read_past, read_either, read_optional}
 use Rattle.grammar_rules.specs.Counted.{plain, given, both, after, past, before, many_from, item}
@@ -20,23 +20,23 @@ use Rattle.grammar_rules.proofs.Many.{many_sight}
 use Rattle.grammar_rules.proofs.Classes.{seen_in, agree, apart_by, reads_by}
 use Rattle.grammar_rules.proofs.Same.{same_refl, same_sym, same_trans, same-either, reads-same}
 use Rattle.grammar_rules.proofs.Factoring.{same_factored, same_in_a_row, same_swapped}
-use Rattle.select_sql.proofs.Regrouping.{same_grouped, same_shared}
-use Rattle.select_sql.proofs.Combining.{on, Readable, Countable, is, one, seen, seen_or_nothing, seen_those, seen_word, seen_digits, reads_terminal, plainly, as_given, in_pair, behind, closed, maybe_so, one_or_other, in_turn}
-use Rattle.select_sql.specs.Marks.{Fault, class, of, is_name, name_of, name, digits}
-use Rattle.select_sql.specs.Expressions.{Counting, word, expression}
-use Rattle.select_sql.specs.Readers.{Reader, begins, is_step, read_expression}
-use Rattle.select_sql.specs.declared.tree.Name.{Name}
-use Rattle.select_sql.specs.declared.tree.Step.{Step}
-use Rattle.select_sql.specs.declared.tree.Step.TheVariants as step
+use Rattle.sql_grammar.proofs.Regrouping.{same_grouped, same_shared}
+use Rattle.sql_grammar.proofs.Combining.{on, Readable, Countable, is, one, seen, seen_or_nothing, seen_those, seen_word, seen_digits, reads_terminal, plainly, as_given, in_pair, behind, closed, maybe_so, one_or_other, in_turn}
+use Rattle.sql_grammar.specs.Marks.{Fault, class, of, is_name, name_of, name, digits}
+use Rattle.sql_grammar.specs.Expressions.{Counting, word, expression}
+use Rattle.sql_grammar.specs.Readers.{Reader, begins, is_step, read_expression}
+use Rattle.sql_grammar.specs.declared.tree.Name.{Name}
+use Rattle.sql_grammar.specs.declared.tree.Step.{Step}
+use Rattle.sql_grammar.specs.declared.tree.Step.TheVariants as step
 use Rattle.grammar_rules.specs.CountedReaders.{read_many_from, read_item}
 use Rattle.grammar_rules.proofs.Counts.{reads-item}
 use Rattle.grammar_rules.proofs.CountedMany.{reads-many_from}
-use Rattle.select_sql.specs.Marks.{is_source}
-use Rattle.select_sql.specs.Queries.{named_step, element_step, all_step, own_step, source_step, over_step, steps, source_steps, alias, source, filter, ending}
-use Rattle.select_sql.specs.QueryReaders.{read_name, read_named_step, read_element_rest, read_all_rest, read_step, read_steps, read_own_steps, read_bracket_steps, read_source_steps, begins_alias, read_alias, read_source, read_filter, read_limit, read_ending, read_behind_list}
-use Rattle.select_sql.proofs.Sights.{or_sight, or_more}
-use Rattle.select_sql.proofs.ExpressionReads.{same_truth, reads-expression}
-use Rattle.select_sql.proofs.ItemReads.{reads-name}
+use Rattle.sql_grammar.specs.Marks.{is_source}
+use Rattle.sql_grammar.specs.Queries.{named_step, element_step, all_step, own_step, source_step, over_step, steps, source_steps, alias, source, filter, ending}
+use Rattle.sql_grammar.specs.QueryReaders.{read_name, read_named_step, read_element_rest, read_all_rest, read_step, read_steps, read_own_steps, read_bracket_steps, read_source_steps, begins_alias, read_alias, read_source, read_filter, read_limit, read_ending, read_behind_list}
+use Rattle.sql_grammar.proofs.Sights.{or_sight, or_more}
+use Rattle.sql_grammar.proofs.ExpressionReads.{same_truth, reads-expression}
+use Rattle.sql_grammar.proofs.ItemReads.{reads-name}
 
 -- ---- steps
 

@@ -6,7 +6,7 @@ use Rattle.sql_tokens.specs.declared.class.Class.TheVariants as k
 use Rattle.sql_tokens.specs.Classes.{same_class, all_classes}
 use Rattle.sql_tokens.specs.Cutting.{Symbol}
 use Rattle.sql_tokens.proofs.ClassLaws.{every, same_is}
-use Rattle.select_sql.specs.declared.tree.Expr.{Expr}
+use Rattle.sql_grammar.specs.declared.tree.Expr.{Expr}
 use Rattle.grammar_rules.specs.Rules.{Rule, terminal, token, made, either, preceded_by, Same}
 use Rattle.grammar_rules.specs.Readers.{read_made, read_terminal, is_seen}
 use Rattle.grammar_rules.specs.Counted.{plain, given, both, past, chain}
@@ -21,22 +21,22 @@ use Rattle.grammar_rules.proofs.CountedMany.{reads-list_of, list_sight}
 use Rattle.grammar_rules.proofs.Classes.{agree, apart_by, reads_by}
 use Rattle.grammar_rules.proofs.Same.{same_refl, same_sym, same_trans, same-sequence, reads-same}
 use Rattle.grammar_rules.proofs.Factoring.{same_factored}
-use Rattle.select_sql.proofs.Forms.{Told, reads-one_of}
-use Rattle.select_sql.proofs.Combining.{on, Countable, is, one, seen, seen_or_nothing, seen_those, seen_word, reads_terminal, written, plainly, as_given, in_pair, behind, maybe_so, one_or_other, in_brackets}
-use Rattle.select_sql.specs.Marks.{Fault, class, of, is_name, begins_expression, name_of, name}
-use Rattle.select_sql.specs.Expressions.{Counting, word, enclosed, over_class, expression}
-use Rattle.select_sql.specs.Readers.{read_enclosed, read_expression}
-use Rattle.select_sql.specs.declared.tree.Agg.{Agg}
-use Rattle.select_sql.specs.declared.tree.Agg.TheVariants as agg
-use Rattle.select_sql.specs.declared.tree.Selection.TheVariants as selection
+use Rattle.sql_grammar.proofs.Forms.{Told, reads-one_of}
+use Rattle.sql_grammar.proofs.Combining.{on, Countable, is, one, seen, seen_or_nothing, seen_those, seen_word, reads_terminal, written, plainly, as_given, in_pair, behind, maybe_so, one_or_other, in_brackets}
+use Rattle.sql_grammar.specs.Marks.{Fault, class, of, is_name, begins_expression, name_of, name}
+use Rattle.sql_grammar.specs.Expressions.{Counting, word, enclosed, over_class, expression}
+use Rattle.sql_grammar.specs.Readers.{read_enclosed, read_expression}
+use Rattle.sql_grammar.specs.declared.tree.Agg.{Agg}
+use Rattle.sql_grammar.specs.declared.tree.Agg.TheVariants as agg
+use Rattle.sql_grammar.specs.declared.tree.Selection.TheVariants as selection
 use Rattle.grammar_rules.specs.Rules.{told}
 use Rattle.grammar_rules.proofs.Counts.{reads-item, reads-counted_past}
 use Rattle.grammar_rules.proofs.CountedMany.{reads-chain}
-use Rattle.select_sql.specs.Queries.{as_name, row, rows, AggForm, count_form, sum_form, min_form, max_form, avg_form, agg_form, aggregate, agg_of, any_agg, mixed_class, over_first, over_total, total, later_agg, first_total, later_total, totals, items}
-use Rattle.select_sql.specs.QueryReaders.{read_name, read_as_name, read_row, read_rows, is_agg, read_aggregate, read_counted, read_count, read_agg_of, read_any_agg, read_later_agg, read_total, read_first_total, read_later_total, read_totals, read_items}
-use Rattle.select_sql.proofs.Sights.{or_sight, or_more}
-use Rattle.select_sql.proofs.ExpressionReads.{same_truth, seen_over, reads-expression}
-use Rattle.select_sql.proofs.FactoredCalls.{same_enclosed}
+use Rattle.sql_grammar.specs.Queries.{as_name, row, rows, AggForm, count_form, sum_form, min_form, max_form, avg_form, agg_form, aggregate, agg_of, any_agg, mixed_class, over_first, over_total, total, later_agg, first_total, later_total, totals, items}
+use Rattle.sql_grammar.specs.QueryReaders.{read_name, read_as_name, read_row, read_rows, is_agg, read_aggregate, read_counted, read_count, read_agg_of, read_any_agg, read_later_agg, read_total, read_first_total, read_later_total, read_totals, read_items}
+use Rattle.sql_grammar.proofs.Sights.{or_sight, or_more}
+use Rattle.sql_grammar.proofs.ExpressionReads.{same_truth, seen_over, reads-expression}
+use Rattle.sql_grammar.proofs.FactoredCalls.{same_enclosed}
 
 -- ---- names
 

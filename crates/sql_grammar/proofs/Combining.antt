@@ -22,9 +22,9 @@ use Rattle.grammar_rules.proofs.Counts.{seen_limited, reads_look, reads-plain, r
 use Rattle.grammar_rules.proofs.CountedMany.{reads-chain}
 use Rattle.grammar_rules.proofs.Begun.{reads-begun, reads-counted_begun}
 use Rattle.grammar_rules.proofs.Classes.{by_class, apart_in, distinct_in, seen_in, more_in, apart_by, distinct_by, more_by, reads_by}
-use Rattle.select_sql.specs.Marks.{Fault, wrong_number, bad_escape, too_deep, too_many, class, of, those, whole_of, whole_within, digits_within, escape_by, escape, text_in, number_in, told_by}
-use Rattle.select_sql.specs.Expressions.{Counting, word, opening, enclosed, perhaps}
-use Rattle.select_sql.specs.Readers.{Reader, read_enclosed, read_perhaps}
+use Rattle.sql_grammar.specs.Marks.{Fault, wrong_number, bad_escape, too_deep, too_many, class, of, those, whole_of, whole_within, digits_within, escape_by, escape, text_in, number_in, told_by}
+use Rattle.sql_grammar.specs.Expressions.{Counting, word, opening, enclosed, perhaps}
+use Rattle.sql_grammar.specs.Readers.{Reader, read_enclosed, read_perhaps}
 
 -- the lookahead over tokens that tells them by their class
 abbrev pub on : Sight Class → Sight Symbol

@@ -8,20 +8,20 @@ use Rattle.sql_tokens.specs.declared.class.Class.{Class}
 use Rattle.sql_tokens.specs.declared.class.Class.TheVariants as k
 use Rattle.sql_tokens.specs.Classes.{same_class}
 use Rattle.sql_tokens.specs.Cutting.{Symbol}
-use Rattle.select_sql.specs.declared.tree.Expr.{Expr}
-use Rattle.select_sql.specs.declared.tree.Expr.TheVariants as e
-use Rattle.select_sql.specs.declared.tree.SumPart.{SumPart, roll-SumPart}
-use Rattle.select_sql.specs.declared.tree.ProdPart.{ProdPart, roll-ProdPart}
-use Rattle.select_sql.specs.declared.tree.Arm.{Arm, roll-Arm}
-use Rattle.select_sql.specs.declared.tree.Name.{Name}
-use Rattle.select_sql.specs.declared.tree.CompareOp.{CompareOp}
-use Rattle.select_sql.specs.declared.tree.PathStep.{PathStep}
-use Rattle.select_sql.specs.declared.tree.PathStep.TheVariants as step
-use Rattle.select_sql.specs.declared.tree.CastTarget.{CastTarget}
-use Rattle.select_sql.specs.declared.tree.CastTarget.TheVariants as target
+use Rattle.sql_grammar.specs.declared.tree.Expr.{Expr}
+use Rattle.sql_grammar.specs.declared.tree.Expr.TheVariants as e
+use Rattle.sql_grammar.specs.declared.tree.SumPart.{SumPart, roll-SumPart}
+use Rattle.sql_grammar.specs.declared.tree.ProdPart.{ProdPart, roll-ProdPart}
+use Rattle.sql_grammar.specs.declared.tree.Arm.{Arm, roll-Arm}
+use Rattle.sql_grammar.specs.declared.tree.Name.{Name}
+use Rattle.sql_grammar.specs.declared.tree.CompareOp.{CompareOp}
+use Rattle.sql_grammar.specs.declared.tree.PathStep.{PathStep}
+use Rattle.sql_grammar.specs.declared.tree.PathStep.TheVariants as step
+use Rattle.sql_grammar.specs.declared.tree.CastTarget.{CastTarget}
+use Rattle.sql_grammar.specs.declared.tree.CastTarget.TheVariants as target
 use Rattle.grammar_rules.specs.Rules.{Rule, Verdict, takes, refuses, limited, terminal, token, fault, nothing, made, begun, alternatives, either, optional, preceded_by, followed_by}
 use Rattle.grammar_rules.specs.Counted.{Counted, plain, one_more, given, both, after, past, before, maybe, chain, list_of}
-use Rattle.select_sql.specs.Marks.{Fault, unknown_function, unsupported_type, too_deep, too_many, class, of, those, is_path_name, is_unknown_call, is_number, is_decimal, is_for, begins_expression, name_of, text_in, number_in, name, text, digits, precision, scale, escape, one_told, compare_op, sum_op, prod_op, date_part, stamp_part, simple_type, Form, literal_text, literal_number, truth, untruth, null_form, missing_form, path_form, unknown_call, exponent_form, cast_form, group_form, case_form, coalesce_form, nullif_form, char_length_form, lower_form, upper_form, substring_form, trim_form, extract_form, date_add_form, to_timestamp_form, form_of}
+use Rattle.sql_grammar.specs.Marks.{Fault, unknown_function, unsupported_type, too_deep, too_many, class, of, those, is_path_name, is_unknown_call, is_number, is_decimal, is_for, begins_expression, name_of, text_in, number_in, name, text, digits, precision, scale, escape, one_told, compare_op, sum_op, prod_op, date_part, stamp_part, simple_type, Form, literal_text, literal_number, truth, untruth, null_form, missing_form, path_form, unknown_call, exponent_form, cast_form, group_form, case_form, coalesce_form, nullif_form, char_length_form, lower_form, upper_form, substring_form, trim_form, extract_form, date_add_form, to_timestamp_form, form_of}
 
 -- a rule that counts primaries
 abbrev pub Counting : Type 0 → Type 1

@@ -6,7 +6,7 @@ use Rattle.grammar_rules.proofs.Clear.{Sight, Clear}
 use Rattle.grammar_rules.proofs.Alternatives.{Parted, clear-alternatives}
 use Rattle.grammar_rules.proofs.Right.{Right}
 use Rattle.grammar_rules.proofs.Reading.{Reads, right-alternative}
-use Rattle.select_sql.specs.Forms.{read_form, read_one_of}
+use Rattle.sql_grammar.specs.Forms.{read_form, read_one_of}
 
 -- `which` tells the form that a symbol begins, and no form is empty
 pub record Told {T I : Type 0} (each : I → Sight T) (which : T → Option I) (goes_on : T → Bool) : Type 0 where

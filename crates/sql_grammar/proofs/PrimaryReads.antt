@@ -4,9 +4,9 @@ use Rattle.sql_tokens.specs.declared.class.Class.{Class}
 use Rattle.sql_tokens.specs.declared.class.Class.TheVariants as k
 use Rattle.sql_tokens.specs.Classes.{same_class, all_classes}
 use Rattle.sql_tokens.proofs.ClassLaws.{every}
-use Rattle.select_sql.specs.declared.tree.Expr.{Expr}
-use Rattle.select_sql.specs.declared.tree.Expr.TheVariants as e
-use Rattle.select_sql.specs.declared.tree.Arm.{roll-Arm}
+use Rattle.sql_grammar.specs.declared.tree.Expr.{Expr}
+use Rattle.sql_grammar.specs.declared.tree.Expr.TheVariants as e
+use Rattle.sql_grammar.specs.declared.tree.Arm.{roll-Arm}
 use Rattle.grammar_rules.specs.Rules.{terminal, token, made}
 use Rattle.grammar_rules.specs.Readers.{read_made, read_terminal}
 use Rattle.grammar_rules.specs.Counted.{plain, given, both, past, before, maybe, chain}
@@ -15,12 +15,12 @@ use Rattle.grammar_rules.proofs.Clear.{Sight}
 use Rattle.grammar_rules.proofs.Sequences.{sequence_sight}
 use Rattle.grammar_rules.proofs.Reading.{past_sight, before_sight, reads-made, reads-sequence}
 use Rattle.grammar_rules.proofs.Classes.{apart_in, apart_by}
-use Rattle.select_sql.proofs.Combining.{on, Countable, is, one, seen, seen_or_nothing, seen_word, seen_opening, seen_told_by, reads_terminal, written, plainly, as_given, in_pair, behind, closed, maybe_so, behind_counted, in_chain, in_brackets}
-use Rattle.select_sql.specs.Marks.{class, of, begins_expression, one_told, date_part, stamp_part}
-use Rattle.select_sql.specs.Expressions.{Counting, Room, word, opening, enclosed, listed, type_of, call, cast, group, arm, case_rest, case, coalesce, nullif, extract, date_add}
-use Rattle.select_sql.specs.Readers.{Reader, begins, read_enclosed, read_listed, read_ended, read_type, read_call, read_cast_rest, read_group, read_arm, read_arms, read_otherwise, read_case_rest, read_case, read_coalesce_rest, read_nullif_rest, read_extract_rest, read_date_add_rest}
-use Rattle.select_sql.proofs.PartReads.{type_sight, reads-type}
-use Rattle.select_sql.proofs.Sights.{or_sight}
+use Rattle.sql_grammar.proofs.Combining.{on, Countable, is, one, seen, seen_or_nothing, seen_word, seen_opening, seen_told_by, reads_terminal, written, plainly, as_given, in_pair, behind, closed, maybe_so, behind_counted, in_chain, in_brackets}
+use Rattle.sql_grammar.specs.Marks.{class, of, begins_expression, one_told, date_part, stamp_part}
+use Rattle.sql_grammar.specs.Expressions.{Counting, Room, word, opening, enclosed, listed, type_of, call, cast, group, arm, case_rest, case, coalesce, nullif, extract, date_add}
+use Rattle.sql_grammar.specs.Readers.{Reader, begins, read_enclosed, read_listed, read_ended, read_type, read_call, read_cast_rest, read_group, read_arm, read_arms, read_otherwise, read_case_rest, read_case, read_coalesce_rest, read_nullif_rest, read_extract_rest, read_date_add_rest}
+use Rattle.sql_grammar.proofs.PartReads.{type_sight, reads-type}
+use Rattle.sql_grammar.proofs.Sights.{or_sight}
 
 -- the lookahead of a part that stands behind its comma, or of none
 abbrev pub or_none : (Class → Bool) → (Class → Bool) → Sight Class

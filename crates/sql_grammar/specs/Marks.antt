@@ -9,17 +9,17 @@ use Rattle.sql_tokens.specs.Classes.{same_class}
 use Rattle.sql_tokens.specs.TokenForms.{Token, class_of}
 use Rattle.sql_tokens.specs.Cutting.{Symbol}
 use Rattle.sql_tokens.specs.Payloads.{word_of, quoted_of, text_of, digits_of, number_from, undoubled}
-use Rattle.select_sql.specs.declared.tree.Name.{Name}
-use Rattle.select_sql.specs.declared.tree.CompareOp.{CompareOp}
-use Rattle.select_sql.specs.declared.tree.CompareOp.TheVariants as compares
-use Rattle.select_sql.specs.declared.tree.SumOp.{SumOp}
-use Rattle.select_sql.specs.declared.tree.SumOp.TheVariants as adds
-use Rattle.select_sql.specs.declared.tree.ProdOp.{ProdOp}
-use Rattle.select_sql.specs.declared.tree.ProdOp.TheVariants as multiplies
-use Rattle.select_sql.specs.declared.tree.DatePart.{DatePart}
-use Rattle.select_sql.specs.declared.tree.DatePart.TheVariants as part
-use Rattle.select_sql.specs.declared.tree.CastTarget.{CastTarget}
-use Rattle.select_sql.specs.declared.tree.CastTarget.TheVariants as target
+use Rattle.sql_grammar.specs.declared.tree.Name.{Name}
+use Rattle.sql_grammar.specs.declared.tree.CompareOp.{CompareOp}
+use Rattle.sql_grammar.specs.declared.tree.CompareOp.TheVariants as compares
+use Rattle.sql_grammar.specs.declared.tree.SumOp.{SumOp}
+use Rattle.sql_grammar.specs.declared.tree.SumOp.TheVariants as adds
+use Rattle.sql_grammar.specs.declared.tree.ProdOp.{ProdOp}
+use Rattle.sql_grammar.specs.declared.tree.ProdOp.TheVariants as multiplies
+use Rattle.sql_grammar.specs.declared.tree.DatePart.{DatePart}
+use Rattle.sql_grammar.specs.declared.tree.DatePart.TheVariants as part
+use Rattle.sql_grammar.specs.declared.tree.CastTarget.{CastTarget}
+use Rattle.sql_grammar.specs.declared.tree.CastTarget.TheVariants as target
 use Rattle.grammar_rules.specs.Rules.{Verdict, takes, faults, refuses}
 
 -- the faults that a token may have where a rule looks at it; at one token they are tried in this order

@@ -6,8 +6,8 @@ use Rattle.sql_tokens.specs.declared.class.Class.{Class}
 use Rattle.sql_tokens.specs.declared.class.Class.TheVariants as k
 use Rattle.sql_tokens.specs.Classes.{same_class, all_classes}
 use Rattle.sql_tokens.specs.Cutting.{Symbol}
-use Rattle.select_sql.specs.declared.tree.Expr.{Expr}
-use Rattle.select_sql.specs.declared.tree.Expr.TheVariants as e
+use Rattle.sql_grammar.specs.declared.tree.Expr.{Expr}
+use Rattle.sql_grammar.specs.declared.tree.Expr.TheVariants as e
 use Rattle.grammar_rules.specs.Rules.{Rule, Verdict, terminal, token, nothing, made, begun, sequence, either, Same}
 use Rattle.grammar_rules.specs.Readers.{found, read_terminal, read_either}
 use Rattle.grammar_rules.specs.Counted.{plain, one_more, given, both, after, past, maybe}
@@ -18,12 +18,12 @@ use Rattle.grammar_rules.proofs.Reading.{past_sight, reads-nothing}
 use Rattle.grammar_rules.proofs.Classes.{apart_in}
 use Rattle.grammar_rules.proofs.Same.{same_refl, same_sym, same_trans, same-made, same-sequence, same-either, reads-same}
 use Rattle.grammar_rules.proofs.Factoring.{same_factored, same_then_optional, same_made_each, same_swapped}
-use Rattle.select_sql.proofs.Regrouping.{same_grouped, same_shared}
-use Rattle.select_sql.proofs.Combining.{on, Countable, is, one, seen, seen_or_nothing, seen_word, seen_told_by, reads_terminal, reads_counted, plainly, as_given, in_pair, behind, maybe_so, one_or_other, behind_counted, in_brackets, in_turn, in_perhaps}
-use Rattle.select_sql.specs.Marks.{Fault, too_many, class, of, is_for, begins_expression, one_told}
-use Rattle.select_sql.specs.Expressions.{Counting, Room, perhaps, word, opening, enclosed, trim_side, side_or_both, call, substring, trim_set, trim}
-use Rattle.select_sql.specs.Readers.{Reader, begins, read_enclosed, is_side, read_call, read_substring_commas, read_substring_words, read_substring_rest, read_trim_from, read_trim_set, read_trim_plain, read_trim_rest}
-use Rattle.select_sql.proofs.Sights.{or_sight, or_more}
+use Rattle.sql_grammar.proofs.Regrouping.{same_grouped, same_shared}
+use Rattle.sql_grammar.proofs.Combining.{on, Countable, is, one, seen, seen_or_nothing, seen_word, seen_told_by, reads_terminal, reads_counted, plainly, as_given, in_pair, behind, maybe_so, one_or_other, behind_counted, in_brackets, in_turn, in_perhaps}
+use Rattle.sql_grammar.specs.Marks.{Fault, too_many, class, of, is_for, begins_expression, one_told}
+use Rattle.sql_grammar.specs.Expressions.{Counting, Room, perhaps, word, opening, enclosed, trim_side, side_or_both, call, substring, trim_set, trim}
+use Rattle.sql_grammar.specs.Readers.{Reader, begins, read_enclosed, is_side, read_call, read_substring_commas, read_substring_words, read_substring_rest, read_trim_from, read_trim_set, read_trim_plain, read_trim_rest}
+use Rattle.sql_grammar.proofs.Sights.{or_sight, or_more}
 
 -- ---- brackets around two alternatives
 

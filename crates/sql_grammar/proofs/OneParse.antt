@@ -1,16 +1,16 @@
 -- A text is exactly one query or has exactly one fault.
 use Rattle.std.proofs.Common.{◌≡◌, ℕ, ◌<◌, ◌≤◌, ◌⊎◌, Bool, true, false, List, length, Option, Some, None, Result, Ok, Err, refl, sym, ap, ◌∙◌, inl, inr, arith}
 use Rattle.sql_tokens.specs.Cutting.{symbols_of, lexer_fault}
-use Rattle.select_sql.specs.declared.tree.Query.{Query}
-use Rattle.select_sql.specs.declared.error.SqlCode.TheVariants as code
-use Rattle.select_sql.specs.declared.error.SqlError.{SqlError}
+use Rattle.sql_grammar.specs.declared.tree.Query.{Query}
+use Rattle.sql_grammar.specs.declared.error.SqlCode.TheVariants as code
+use Rattle.sql_grammar.specs.declared.error.SqlError.{SqlError}
 use Rattle.grammar_rules.specs.Places.{Answer, value, refusal, AnswersNamed}
 use Rattle.grammar_rules.specs.Readers.{answer_named}
-use Rattle.select_sql.specs.Marks.{Fault}
-use Rattle.select_sql.specs.Queries.{Written, query}
-use Rattle.select_sql.specs.QueryReaders.{read_query}
-use Rattle.select_sql.specs.Faults.{names_source, query_of, misplaced, code_of, longest, place_of, IsCut, IsWritten, Spells, FaultOf, is_too_long, is_unfit, is_refused, is_other_name, Parses, EachParses, OneParse}
-use Rattle.select_sql.proofs.QueryReads.{said, one_answer}
+use Rattle.sql_grammar.specs.Marks.{Fault}
+use Rattle.sql_grammar.specs.Queries.{Written, query}
+use Rattle.sql_grammar.specs.QueryReaders.{read_query}
+use Rattle.sql_grammar.specs.Faults.{names_source, query_of, misplaced, code_of, longest, place_of, IsCut, IsWritten, Spells, FaultOf, is_too_long, is_unfit, is_refused, is_other_name, Parses, EachParses, OneParse}
+use Rattle.sql_grammar.proofs.QueryReads.{said, one_answer}
 
 -- ---- some answer
 

@@ -5,9 +5,9 @@ use Rattle.sql_tokens.specs.declared.class.Class.TheVariants as k
 use Rattle.sql_tokens.specs.Classes.{same_class, all_classes}
 use Rattle.sql_tokens.specs.Cutting.{Symbol}
 use Rattle.sql_tokens.proofs.ClassLaws.{every}
-use Rattle.select_sql.specs.declared.tree.Expr.TheVariants as e
-use Rattle.select_sql.specs.declared.tree.PathStep.{PathStep}
-use Rattle.select_sql.specs.declared.tree.PathStep.TheVariants as step
+use Rattle.sql_grammar.specs.declared.tree.Expr.TheVariants as e
+use Rattle.sql_grammar.specs.declared.tree.PathStep.{PathStep}
+use Rattle.sql_grammar.specs.declared.tree.PathStep.TheVariants as step
 use Rattle.grammar_rules.specs.Rules.{Rule, terminal, token, nothing, made, begun, optional, preceded_by, followed_by}
 use Rattle.grammar_rules.specs.Readers.{found, read_made, read_terminal, read_past, read_before, read_optional, read_begun}
 use Rattle.grammar_rules.specs.Counted.{plain, one_more, past, before}
@@ -18,10 +18,10 @@ use Rattle.grammar_rules.proofs.Reading.{past_sight, before_sight, reads-nothing
 use Rattle.grammar_rules.proofs.Choices.{either_sight, optional_sight, reads-either, reads-optional}
 use Rattle.grammar_rules.proofs.Begun.{reads-begun}
 use Rattle.grammar_rules.proofs.Classes.{distinct_in, seen_in, apart_by, distinct_by, reads_by}
-use Rattle.select_sql.proofs.Combining.{on, Readable, Countable, is, one, seen, seen_or_nothing, seen_those, seen_word, seen_opening, seen_digits, reads_terminal, reads_counted, plainly, behind, closed, one_or_other, in_chain}
-use Rattle.select_sql.specs.Marks.{Fault, too_many, class, of, is_name, is_path_name, is_decimal, name_of, name, digits, precision, scale, simple_type}
-use Rattle.select_sql.specs.Expressions.{Counting, word, opening, decimal_target, decimal_digits, type_of, path_step, path_name, path, flag}
-use Rattle.select_sql.specs.Readers.{begins, read_flag, read_decimal_digits, read_decimal, is_simple_type, read_type, is_step, read_path_step, read_path_name, read_path}
+use Rattle.sql_grammar.proofs.Combining.{on, Readable, Countable, is, one, seen, seen_or_nothing, seen_those, seen_word, seen_opening, seen_digits, reads_terminal, reads_counted, plainly, behind, closed, one_or_other, in_chain}
+use Rattle.sql_grammar.specs.Marks.{Fault, too_many, class, of, is_name, is_path_name, is_decimal, name_of, name, digits, precision, scale, simple_type}
+use Rattle.sql_grammar.specs.Expressions.{Counting, word, opening, decimal_target, decimal_digits, type_of, path_step, path_name, path, flag}
+use Rattle.sql_grammar.specs.Readers.{begins, read_flag, read_decimal_digits, read_decimal, is_simple_type, read_type, is_step, read_path_step, read_path_name, read_path}
 
 -- ---- flags
 

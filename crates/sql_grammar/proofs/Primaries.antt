@@ -6,8 +6,8 @@ use Rattle.sql_tokens.specs.declared.class.Class.TheVariants as k
 use Rattle.sql_tokens.specs.Classes.{same_class, all_classes}
 use Rattle.sql_tokens.specs.Cutting.{Symbol}
 use Rattle.sql_tokens.proofs.ClassLaws.{every}
-use Rattle.select_sql.specs.declared.tree.Expr.{Expr}
-use Rattle.select_sql.specs.declared.tree.Expr.TheVariants as e
+use Rattle.sql_grammar.specs.declared.tree.Expr.{Expr}
+use Rattle.sql_grammar.specs.declared.tree.Expr.TheVariants as e
 use Rattle.grammar_rules.specs.Rules.{takes, refuses, fault}
 use Rattle.grammar_rules.specs.Readers.{read_fault}
 use Rattle.grammar_rules.specs.Counted.{plain}
@@ -15,16 +15,16 @@ use Rattle.grammar_rules.specs.CountedReaders.{read_plain}
 use Rattle.grammar_rules.proofs.Clear.{Sight}
 use Rattle.grammar_rules.proofs.Reading.{reads-fault}
 use Rattle.grammar_rules.proofs.Classes.{agree}
-use Rattle.select_sql.proofs.Forms.{Told, reads-one_of}
-use Rattle.select_sql.proofs.Combining.{on, Countable, is, one, seen, seen_if, reads_counted, plainly}
-use Rattle.select_sql.specs.Marks.{Fault, unknown_function, unsupported_type, class, is_path_name, is_unknown_call, is_number, text_in, number_in, Form, literal_text, literal_number, truth, untruth, null_form, missing_form, path_form, unknown_call, exponent_form, cast_form, group_form, case_form, coalesce_form, nullif_form, char_length_form, lower_form, upper_form, substring_form, trim_form, extract_form, date_add_form, to_timestamp_form, form_of}
-use Rattle.select_sql.specs.Expressions.{Counting, Room, literal, primary_of, primary}
-use Rattle.select_sql.specs.Readers.{Reader, begins, is_step, read_literal, read_primary_of, read_primary}
+use Rattle.sql_grammar.proofs.Forms.{Told, reads-one_of}
+use Rattle.sql_grammar.proofs.Combining.{on, Countable, is, one, seen, seen_if, reads_counted, plainly}
+use Rattle.sql_grammar.specs.Marks.{Fault, unknown_function, unsupported_type, class, is_path_name, is_unknown_call, is_number, text_in, number_in, Form, literal_text, literal_number, truth, untruth, null_form, missing_form, path_form, unknown_call, exponent_form, cast_form, group_form, case_form, coalesce_form, nullif_form, char_length_form, lower_form, upper_form, substring_form, trim_form, extract_form, date_add_form, to_timestamp_form, form_of}
+use Rattle.sql_grammar.specs.Expressions.{Counting, Room, literal, primary_of, primary}
+use Rattle.sql_grammar.specs.Readers.{Reader, begins, is_step, read_literal, read_primary_of, read_primary}
 use Rattle.std.proofs.Common.{eqb-true}
-use Rattle.select_sql.proofs.Sights.{or_sight, primary_sight}
-use Rattle.select_sql.proofs.PartReads.{reads-path}
-use Rattle.select_sql.proofs.PrimaryReads.{reads-simple_call, reads-cast, reads-group, reads-case, reads-coalesce, reads-nullif, reads-extract, reads-date_add}
-use Rattle.select_sql.proofs.FactoredCalls.{reads-substring, reads-trim}
+use Rattle.sql_grammar.proofs.Sights.{or_sight, primary_sight}
+use Rattle.sql_grammar.proofs.PartReads.{reads-path}
+use Rattle.sql_grammar.proofs.PrimaryReads.{reads-simple_call, reads-cast, reads-group, reads-case, reads-coalesce, reads-nullif, reads-extract, reads-date_add}
+use Rattle.sql_grammar.proofs.FactoredCalls.{reads-substring, reads-trim}
 
 -- ---- forms by number
 

@@ -4,9 +4,9 @@ use Rattle.sql_tokens.specs.declared.class.Class.{Class}
 use Rattle.sql_tokens.specs.declared.class.Class.TheVariants as k
 use Rattle.sql_tokens.specs.Classes.{same_class}
 use Rattle.grammar_rules.proofs.Clear.{Sight}
-use Rattle.select_sql.specs.Marks.{begins_primary, begins_unary, begins_expression}
-use Rattle.select_sql.specs.Readers.{is_step, is_prod_op, is_sum_op, begins_tail}
-use Rattle.select_sql.proofs.Combining.{seen}
+use Rattle.sql_grammar.specs.Marks.{begins_primary, begins_unary, begins_expression}
+use Rattle.sql_grammar.specs.Readers.{is_step, is_prod_op, is_sum_op, begins_tail}
+use Rattle.sql_grammar.proofs.Combining.{seen}
 
 abbrev pub prod_more : Class → Bool
 prod_more c = is_prod_op c || is_step c

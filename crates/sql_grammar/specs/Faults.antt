@@ -2,16 +2,16 @@
 use Rattle.std.specs.Prelude.{◌≡◌, ℕ, ◌<◌, ◌≤◌, Bool, true, false, ◌&&◌, List, length, drop, Option, Some, None, Result, Ok, Err, if◌then◌else◌, bytes_eq, codes}
 use Rattle.std.specs.Str.{str_eq_ignore_ascii_case}
 use Rattle.sql_tokens.specs.Cutting.{Symbol, symbols_of, lexer_fault, place_or}
-use Rattle.select_sql.specs.declared.tree.Name.{Name}
-use Rattle.select_sql.specs.declared.tree.Selection.{Selection}
-use Rattle.select_sql.specs.declared.tree.Selection.TheVariants as selection
-use Rattle.select_sql.specs.declared.tree.Query.{Query}
-use Rattle.select_sql.specs.declared.error.SqlCode.{SqlCode}
-use Rattle.select_sql.specs.declared.error.SqlCode.TheVariants as code
-use Rattle.select_sql.specs.declared.error.SqlError.{SqlError}
+use Rattle.sql_grammar.specs.declared.tree.Name.{Name}
+use Rattle.sql_grammar.specs.declared.tree.Selection.{Selection}
+use Rattle.sql_grammar.specs.declared.tree.Selection.TheVariants as selection
+use Rattle.sql_grammar.specs.declared.tree.Query.{Query}
+use Rattle.sql_grammar.specs.declared.error.SqlCode.{SqlCode}
+use Rattle.sql_grammar.specs.declared.error.SqlCode.TheVariants as code
+use Rattle.sql_grammar.specs.declared.error.SqlError.{SqlError}
 use Rattle.grammar_rules.specs.Places.{value, refusal, AnswersNamed}
-use Rattle.select_sql.specs.Marks.{Fault, unknown_function, aggregate_mixed, unsupported_type, bad_escape, wrong_number, too_deep, too_many, class, is_aggregate}
-use Rattle.select_sql.specs.Queries.{Selected, everything, everything_of, selected, Written, query}
+use Rattle.sql_grammar.specs.Marks.{Fault, unknown_function, aggregate_mixed, unsupported_type, bad_escape, wrong_number, too_deep, too_many, class, is_aggregate}
+use Rattle.sql_grammar.specs.Queries.{Selected, everything, everything_of, selected, Written, query}
 
 -- ---- the name before `.*`
 

@@ -6,9 +6,9 @@ use Rattle.sql_tokens.specs.declared.class.Class.TheVariants as k
 use Rattle.sql_tokens.specs.Classes.{same_class, all_classes}
 use Rattle.sql_tokens.specs.Cutting.{Symbol}
 use Rattle.sql_tokens.proofs.ClassLaws.{every}
-use Rattle.select_sql.specs.declared.tree.Expr.{Expr}
-use Rattle.select_sql.specs.declared.tree.SumPart.{roll-SumPart}
-use Rattle.select_sql.specs.declared.tree.ProdPart.{roll-ProdPart}
+use Rattle.sql_grammar.specs.declared.tree.Expr.{Expr}
+use Rattle.sql_grammar.specs.declared.tree.SumPart.{roll-SumPart}
+use Rattle.sql_grammar.specs.declared.tree.ProdPart.{roll-ProdPart}
 use Rattle.grammar_rules.specs.Rules.{Rule, takes, refuses, terminal, token, fault, nothing, made, begun, either, preceded_by, Same}
 use Rattle.grammar_rules.specs.Readers.{found, read_made, read_terminal, read_fault, read_past, read_either, read_begun}
 use Rattle.grammar_rules.specs.Counted.{plain, given, both, after, past, maybe, list_of}
@@ -22,14 +22,14 @@ use Rattle.grammar_rules.proofs.Begun.{reads-begun}
 use Rattle.grammar_rules.proofs.Classes.{agree, apart_by, distinct_by, reads_by}
 use Rattle.grammar_rules.proofs.Same.{same_refl, same_sym, same_trans, same-either, reads-same}
 use Rattle.grammar_rules.proofs.Factoring.{same_factored, same_made_first}
-use Rattle.select_sql.proofs.Regrouping.{same_crossed}
-use Rattle.select_sql.proofs.Combining.{on, Readable, Countable, is, one, seen, seen_or_nothing, seen_those, seen_word, seen_told_by, seen_escape, reads_terminal, written, plainly, as_given, in_pair, behind, maybe_so, one_or_other, in_chain, in_brackets, in_perhaps}
-use Rattle.select_sql.specs.Marks.{Fault, too_deep, class, of, begins_expression, text_in, text, escape, one_told, compare_op, sum_op, prod_op, Form, literal_text, literal_number, truth, untruth, null_form, missing_form, path_form, unknown_call, exponent_form, cast_form, group_form, case_form, coalesce_form, nullif_form, char_length_form, lower_form, upper_form, substring_form, trim_form, extract_form, date_add_form, to_timestamp_form}
-use Rattle.select_sql.specs.Expressions.{Counting, Room, room_of, perhaps, word, or_node, and_node, sum_node, prod_node, Tail, comparing, lying, among, liking, pred_node, not_node, unary_node, is_what, over_class, over_form, primary, flag, unary, prod_part, prod, sum_part, sum, comparison, between, members, in_members, like, is_tail, negatable, tail, pred, negation, conjunction, disjunction, expression}
-use Rattle.select_sql.specs.Readers.{Reader, begins, read_perhaps, read_flag, is_step, is_prod_op, is_sum_op, is_compare_op, begins_negatable, begins_tail, read_primary, read_unary, read_prod_part, read_prod, read_sum_part, read_sum, read_comparison, read_between, read_members, read_in, read_escape, read_like, read_negatable, read_is, read_tail, read_pred, read_negation, read_conjunction, read_disjunction, read_expression}
-use Rattle.select_sql.proofs.Sights.{prod_more, sum_more, tail_more, or_more, primary_sight, unary_sight, prod_sight, sum_sight, pred_sight, not_sight, and_sight, or_sight}
-use Rattle.select_sql.proofs.PartReads.{reads-flag}
-use Rattle.select_sql.proofs.Primaries.{reads-primary}
+use Rattle.sql_grammar.proofs.Regrouping.{same_crossed}
+use Rattle.sql_grammar.proofs.Combining.{on, Readable, Countable, is, one, seen, seen_or_nothing, seen_those, seen_word, seen_told_by, seen_escape, reads_terminal, written, plainly, as_given, in_pair, behind, maybe_so, one_or_other, in_chain, in_brackets, in_perhaps}
+use Rattle.sql_grammar.specs.Marks.{Fault, too_deep, class, of, begins_expression, text_in, text, escape, one_told, compare_op, sum_op, prod_op, Form, literal_text, literal_number, truth, untruth, null_form, missing_form, path_form, unknown_call, exponent_form, cast_form, group_form, case_form, coalesce_form, nullif_form, char_length_form, lower_form, upper_form, substring_form, trim_form, extract_form, date_add_form, to_timestamp_form}
+use Rattle.sql_grammar.specs.Expressions.{Counting, Room, room_of, perhaps, word, or_node, and_node, sum_node, prod_node, Tail, comparing, lying, among, liking, pred_node, not_node, unary_node, is_what, over_class, over_form, primary, flag, unary, prod_part, prod, sum_part, sum, comparison, between, members, in_members, like, is_tail, negatable, tail, pred, negation, conjunction, disjunction, expression}
+use Rattle.sql_grammar.specs.Readers.{Reader, begins, read_perhaps, read_flag, is_step, is_prod_op, is_sum_op, is_compare_op, begins_negatable, begins_tail, read_primary, read_unary, read_prod_part, read_prod, read_sum_part, read_sum, read_comparison, read_between, read_members, read_in, read_escape, read_like, read_negatable, read_is, read_tail, read_pred, read_negation, read_conjunction, read_disjunction, read_expression}
+use Rattle.sql_grammar.proofs.Sights.{prod_more, sum_more, tail_more, or_more, primary_sight, unary_sight, prod_sight, sum_sight, pred_sight, not_sight, and_sight, or_sight}
+use Rattle.sql_grammar.proofs.PartReads.{reads-flag}
+use Rattle.sql_grammar.proofs.Primaries.{reads-primary}
 
 -- an operator, by what it tells of the class
 pub reads-operator : {A : Type 0} (tell : Class → Option A) → Countable (plain (terminal (one_told tell))) (one (λ c. is_some (tell c))) (read_plain (read_terminal (one_told tell)))

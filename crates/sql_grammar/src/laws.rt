@@ -1,5 +1,5 @@
 //! Laws about what a text spells.
-ghost use Rattle.select_sql.specs.Faults.{EachParses, OneParse};
+ghost use Rattle.sql_grammar.specs.Faults.{EachParses, OneParse};
 
 /// A law: each text is exactly one query, or has exactly one first fault, at one place. So what the grammar says of a text
 /// is a function of the text.
