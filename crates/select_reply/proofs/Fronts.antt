@@ -1,0 +1,37 @@
+-- The shortest front of a list that passes a test.
+use Rattle.std.proofs.Common.{◌≡◌, Bool, true, false, List, [], ◌∷◌, ◌++◌, refl, sym, ap, ◌∙◌, subst, append-nil, if◌then◌else◌}
+use Rattle.select_reply.specs.Answers.{shortest_front}
+
+-- no front of the list passes, nor does the list
+abbrev pub NoFront : {A : Type 0} → (List A → Bool) → List A → Type 0
+NoFront {A} test xs = (front back : List A) → xs ≡ front ++ back → test front ≡ false
+
+module _ {A : Type 0} where
+  -- where no front of a list passes, the search goes on behind it
+  pub front-behind : (test : List A → Bool) (xs ts : List A) → NoFront test xs
+      → shortest_front test (xs ++ ts) ≡ xs ++ shortest_front (λ front. test (xs ++ front)) ts
+  front-behind test [] ts none = refl
+  front-behind test (x ∷ xs) ts none =
+      rw (none [] (x ∷ xs) refl)
+      (ap (λ l. x ∷ l) (front-behind (λ front. test (x ∷ front)) xs ts (λ front back is. none (x ∷ front) back (ap (λ l. x ∷ l) is))))
+
+  -- where a list passes, what stands behind it doesn't matter
+  pub front-within : (test : List A → Bool) (xs ts : List A) → test xs ≡ true → shortest_front test (xs ++ ts) ≡ shortest_front test xs
+  front-within test [] [] passes = refl
+  front-within test [] (t ∷ ts) passes = rw passes refl
+  front-within test (x ∷ xs) ts passes = ap (λ l. if test [] then [] else x ∷ l) (front-within (λ front. test (x ∷ front)) xs ts passes)
+
+  -- the first element whose test passes behind a list that doesn't
+  pub front-one : (test : List A → Bool) (xs : List A) (y : A) (ts : List A) → NoFront test xs → test (xs ++ y ∷ []) ≡ true
+      → shortest_front test (xs ++ y ∷ ts) ≡ xs ++ y ∷ []
+  front-one test xs y ts none passes =
+      front-behind test xs (y ∷ ts) none
+      ∙ ap (λ l. xs ++ l) (rw (none (xs ++ []) [] (sym (append-nil (xs ++ []) ∙ append-nil xs))) (ap (λ l. y ∷ l) (front-first ts)))
+    where
+      front-first : (ts : List A) → shortest_front (λ front. test (xs ++ y ∷ front)) ts ≡ []
+      front-first [] = refl
+      front-first (t ∷ ts) = rw passes refl
+
+  -- a list of which no front passes is its own
+  pub front-all : (test : List A → Bool) (xs : List A) → NoFront test xs → shortest_front test xs ≡ xs
+  front-all test xs none = ap (shortest_front test) (sym (append-nil xs)) ∙ front-behind test xs [] none ∙ append-nil xs

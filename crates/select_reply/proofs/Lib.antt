@@ -1,0 +1,5 @@
+mod Cutting
+mod Endings
+mod Framing
+mod Fronts
+mod Processing
