@@ -2,4 +2,6 @@ mod Cutting
 mod Endings
 mod Framing
 mod Fronts
+mod Growing
 mod Processing
+mod Steps

@@ -1,7 +1,7 @@
 -- Which records are processed, behind records that don't answer the query yet.
 use Rattle.std.proofs.Common.{◌≡◌, ℕ, ◌+◌, ◌-◌, ◌<◌, ◌≤◌, zero, suc, Bool, true, false, ◌||◌, nat_le, List, [], ◌∷◌, ◌++◌, length, Option, None, Some, refl, sym, ap, ◌∙◌, subst, append_assoc, append-nil, arith, if◌then◌else◌}
 use Rattle.std.proofs.lemmas.Bool.Decides.{nat_tests}
-use Rattle.std.proofs.lemmas.List.Sums.{sum_by-append}
+use Rattle.std.proofs.lemmas.List.Sums.{sum_by-append, sum_by-cons}
 use Rattle.std.proofs.lemmas.List.Folds.{list_any-append}
 use Rattle.std.proofs.lemmas.Grind.{flat_map-append}
 use Rattle.select_reply.specs.declared.code.Code.{Code}
@@ -13,6 +13,9 @@ use Rattle.select_reply.proofs.Fronts.{NoFront, front-behind, front-one, front-a
 
 pub outputs-append : (xs ys : List Yielded) → outputs (xs ++ ys) ≡ outputs xs + outputs ys
 outputs-append xs ys = sum_by-append (λ (y : Yielded). if is_output y.gives then 1 else 0) xs ys
+
+pub outputs-one : (y : Yielded) → outputs (y ∷ []) ≡ (if is_output y.gives then 1 else 0)
+outputs-one y = sum_by-cons (λ (z : Yielded). if is_output z.gives then 1 else 0) y [] ∙ omega arith
 
 pub total_len-append : (xs ys : List Yielded) → total_len (xs ++ ys) ≡ total_len xs + total_len ys
 total_len-append xs ys = sum_by-append (λ (y : Yielded). y.len) xs ys

@@ -3,11 +3,13 @@
 #![tactic(auto)]
 
 mod code;
+mod laws;
 mod outcome;
 mod writer;
 mod yields;
 
 pub use code::{Code, message};
+pub use laws::replies_grow_by_records;
 pub use outcome::Outcome;
 pub use writer::ReplyWriter;
 pub use yields::RecordYield;

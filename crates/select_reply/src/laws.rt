@@ -1,0 +1,14 @@
+//! Laws of a reply that grows record by record.
+ghost use Rattle.select_reply.specs.Replies.{EachStepsOn, EachStepsOut, EachStops, EachBegins};
+
+/// Laws: what the calls of a [`ReplyWriter`](crate::ReplyWriter) add, one after the other, is the reply over the records that they
+/// were given. A record behind which the query isn't answered adds the pieces that it makes whole; one that answers it, by its code
+/// or by the limit, adds what is left of the reply, whatever records come behind it; without a further record the counts and the end
+/// are left. And whatever comes, the reply begins with the whole pieces of the records so far.
+
+pub fn replies_grow_by_records()
+    ensures on { EachStepsOn }
+    ensures out { EachStepsOut }
+    ensures stop { EachStops }
+    ensures begins { EachBegins }
+{}
