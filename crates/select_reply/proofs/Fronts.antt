@@ -35,3 +35,10 @@ module _ {A : Type 0} where
   -- a list of which no front passes is its own
   pub front-all : (test : List A → Bool) (xs : List A) → NoFront test xs → shortest_front test xs ≡ xs
   front-all test xs none = ap (shortest_front test) (sym (append-nil xs)) ∙ front-behind test xs [] none ∙ append-nil xs
+
+  -- tests that answer alike find the same front
+  pub front-same : (test other : List A → Bool) (xs : List A) → ((front : List A) → test front ≡ other front) → shortest_front test xs ≡ shortest_front other xs
+  front-same test other [] same = refl
+  front-same test other (x ∷ xs) same =
+      ap (λ b. if b then [] else x ∷ shortest_front (λ front. test (x ∷ front)) xs) (same [])
+      ∙ ap (λ l. if other [] then [] else x ∷ l) (front-same (λ front. test (x ∷ front)) (λ front. other (x ∷ front)) xs (λ front. same (x ∷ front)))

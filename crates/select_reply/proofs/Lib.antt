@@ -5,3 +5,4 @@ mod Fronts
 mod Growing
 mod Processing
 mod Steps
+mod Tiles

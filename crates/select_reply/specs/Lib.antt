@@ -4,5 +4,6 @@ pub mod Codes
 pub mod Events
 pub mod Pieces
 pub mod Replies
+pub mod Tilings
 pub mod Turns
 pub mod Yields

@@ -76,3 +76,11 @@ EachStops = (progress : Bool) (limit : Option ℕ) (done : List Yielded)
 
 abbrev pub EachBegins : Type 0
 EachBegins = (progress : Bool) (limit : Option ℕ) (done rest : List Yielded) → is_answered limit done ≡ false → Begins progress limit done rest
+
+-- more records leave the whole pieces of the first ones, and the Progress events behind these, as they are
+pub record Extends (progress : Bool) (done rest : List Yielded) : Type 0 where
+  pub more : List Event
+  pub events : whole_events progress (done ++ rest) ≡ whole_events progress done ++ more
+
+abbrev pub EachExtends : Type 0
+EachExtends = (progress : Bool) (done rest : List Yielded) → Extends progress done rest

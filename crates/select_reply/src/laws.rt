@@ -1,5 +1,6 @@
 //! Laws of a reply that grows record by record.
-ghost use Rattle.select_reply.specs.Replies.{EachStepsOn, EachStepsOut, EachStops, EachBegins};
+ghost use Rattle.select_reply.specs.Replies.{EachStepsOn, EachStepsOut, EachStops, EachBegins, EachExtends};
+ghost use Rattle.select_reply.specs.Tilings.{EachTilesJoin, EachTilesFail};
 
 /// Laws: what the calls of a [`ReplyWriter`](crate::ReplyWriter) add, one after the other, is the reply over the records that they
 /// were given. A record behind which the query isn't answered adds the pieces that it makes whole; one that answers it, by its code
@@ -11,4 +12,13 @@ pub fn replies_grow_by_records()
     ensures out { EachStepsOut }
     ensures stop { EachStops }
     ensures begins { EachBegins }
+{}
+
+/// Laws: more records leave the whole pieces of the first ones as they are; and without LIMIT and aggregates the replies over tiles
+/// make the whole's. Where the whole has no code, no tile has one, the payloads joined are the whole's and the counts sum to it.
+/// Else the first tile with a code has the whole's, and the payloads up to it, joined, are the whole's.
+pub fn tiles_make_the_whole()
+    ensures extends { EachExtends }
+    ensures join { EachTilesJoin }
+    ensures fail { EachTilesFail }
 {}
