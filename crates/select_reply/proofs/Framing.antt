@@ -1,5 +1,5 @@
 -- The frames of events, one list after another.
-use Rattle.std.proofs.Common.{◌≡◌, ℕ, ◌+◌, ◌-◌, ◌^◌, min, Bool, true, false, List, [], ◌∷◌, ◌++◌, length, take, drop, Option, None, Some, Result, Ok, Err, refl, sym, ap, ◌∙◌, subst, arith, append_assoc, append-nil}
+use Rattle.std.proofs.Common.{OnOk, ◌≡◌, ℕ, ◌+◌, ◌-◌, ◌^◌, min, Bool, true, false, List, [], ◌∷◌, ◌++◌, length, take, drop, Option, None, Some, Result, Ok, Err, refl, sym, ap, ◌∙◌, subst, arith, append_assoc, append-nil}
 use Rattle.std.proofs.lemmas.Grind.{flat_map-append}
 use Rattle.std.specs.Io.KnownBytes.{Appends}
 use Rattle.std.proofs.KnownBytes.{Appends-trans, Appends-nil}
@@ -11,7 +11,8 @@ use Rattle.select_reply.specs.Codes.{code_text, message}
 use Rattle.select_reply.specs.Pieces.{piece, whole_pieces, remainder}
 use Rattle.select_reply.specs.Events.{wrapped_frames, error_event}
 use Rattle.select_reply.specs.Begun.{Begun, counted}
-use Rattle.select_reply.specs.Turns.{progress_behind, grown_events, cut_after, piece_and_progress}
+use Rattle.select_reply.specs.Turns.{progress_behind, grown_events, cut_after, piece_and_progress, grown, more_events}
+use Rattle.select_reply.proofs.Cutting.{two_parts}
 
 pub wrapped_frames-append : (wrap : List ℕ → List ℕ) (es fs : List Event) → wrapped_frames wrap (es ++ fs) ≡ wrapped_frames wrap es ++ wrapped_frames wrap fs
 wrapped_frames-append wrap es fs = flat_map-append (λ e. wrap (frame_of e)) es fs
@@ -106,3 +107,21 @@ pub begun_is : (b : Begun) (pending : List ℕ) (cut scanned : ℕ) (progress : 
     → b.pending ≡ pending → b.cut ≡ cut → b.scanned ≡ scanned → b.progress ≡ progress → b.left ≡ left
     → b ≡ record { pending = pending; cut = cut; scanned = scanned; progress = progress; left = left }
 begun_is b pending cut scanned progress left p c s g l = rw (← p, ← c, ← s, ← g, ← l) refl
+
+-- two parts of an output, one behind the other
+module _ (b : Begun) (first second : List ℕ) where
+  pub two_events : more_events b (first ++ second) ≡ more_events b first ++ more_events (grown b first) second
+  two_events =
+      ap (grown_events b.progress b.scanned b.cut) ((two_parts b.pending first second).0)
+      ∙ grown-append b.progress b.scanned b.cut (whole_pieces (b.pending ++ first)) (whole_pieces (remainder (b.pending ++ first) ++ second))
+
+  pub two_grown : grown (grown b first) second ≡ grown b (first ++ second)
+  two_grown =
+      begun_is (grown (grown b first) second) _ _ _ _ _ (sym ((two_parts b.pending first second).1))
+      (sym (ap (cut_after b.cut) ((two_parts b.pending first second).0) ∙ cut_after-append b.cut (whole_pieces (b.pending ++ first)) (whole_pieces (remainder (b.pending ++ first) ++ second))))
+      refl refl refl
+
+-- what holds at Ok brings what follows from it
+pub ok_then : {A E P Q : Type 0} → (r : Result A E) → OnOk r P → (P → Q) → OnOk r Q
+ok_then (Ok x) h f = f h
+ok_then (Err e) h f = tt

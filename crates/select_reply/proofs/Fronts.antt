@@ -42,3 +42,11 @@ module _ {A : Type 0} where
   front-same test other (x ∷ xs) same =
       ap (λ b. if b then [] else x ∷ shortest_front (λ front. test (x ∷ front)) xs) (same [])
       ∙ ap (λ l. if other [] then [] else x ∷ l) (front-same (λ front. test (x ∷ front)) (λ front. other (x ∷ front)) xs (λ front. same (x ∷ front)))
+
+  -- what is found is a front
+  pub front-is : (test : List A → Bool) (xs : List A) → (back : List A) × (xs ≡ shortest_front test xs ++ back)
+  front-is test [] = ([], refl)
+  front-is test (x ∷ xs) =
+      let rest = front-is (λ front. test (x ∷ front)) xs in
+      let P : Bool → Type 0 = λ b. (back : List A) × (x ∷ xs ≡ (if b then [] else x ∷ shortest_front (λ front. test (x ∷ front)) xs) ++ back) in
+      elim (test []) as P [ true ↦ (x ∷ xs, refl) | false ↦ (rest.0, ap (λ l. x ∷ l) rest.1) ]

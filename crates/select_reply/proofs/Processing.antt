@@ -9,7 +9,7 @@ use Rattle.select_reply.specs.Yields.{Yield, silent, writes, fails, Yielded, is_
 use Rattle.select_reply.specs.Answers.{is_answered, processed}
 use Rattle.select_reply.specs.Begun.{is_full, one_less}
 use Rattle.select_reply.specs.Replies.{left_of}
-use Rattle.select_reply.proofs.Fronts.{NoFront, front-behind, front-one, front-all}
+use Rattle.select_reply.proofs.Fronts.{NoFront, front-behind, front-one, front-all, front-is}
 
 pub outputs-append : (xs ys : List Yielded) → outputs (xs ++ ys) ≡ outputs xs + outputs ys
 outputs-append xs ys = sum_by-append (λ (y : Yielded). if is_output y.gives then 1 else 0) xs ys
@@ -73,8 +73,9 @@ pub processed-one : (limit : Option ℕ) (done : List Yielded) (y : Yielded) (re
 processed-one limit done y rest h g = front-one (is_answered limit) done y rest (no_front limit done h) g
 
 pub processed-behind : (limit : Option ℕ) (done rest : List Yielded) → is_answered limit done ≡ false
-    → (more : List Yielded) × (processed limit (done ++ rest) ≡ done ++ more)
-processed-behind limit done rest h = (_, front-behind (is_answered limit) done rest (no_front limit done h))
+    → (more : List Yielded) × (processed limit (done ++ rest) ≡ done ++ more) × ((back : List Yielded) × (rest ≡ more ++ back))
+processed-behind limit done rest h =
+    (_, front-behind (is_answered limit) done rest (no_front limit done h), front-is (λ front. is_answered limit (done ++ front)) rest)
 
 -- ---- the first code
 

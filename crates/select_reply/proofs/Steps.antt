@@ -223,6 +223,10 @@ each_begins progress limit done rest h =
     let front = whole_events-front progress done behind.0 in
     let closing = map records (unless_empty (remainder (output all))) ++ closing_events all (fault all) in
     record {
+      answered = behind.0;
+      unanswered = behind.2.0;
+      split = behind.2.1;
+      goes_on = behind.1;
       more = front.0 ++ closing;
       events = ap (answer_events progress) behind.1 ∙ ap (λ l. l ++ closing) front.1 ∙ append_assoc (whole_events progress done) front.0 closing;
     }

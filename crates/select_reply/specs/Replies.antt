@@ -55,8 +55,12 @@ pub record Stops (progress : Bool) (limit : Option ℕ) (done : List Yielded) : 
   pub outcome : outcome_of (processed limit done) ≡ Done (begun_counts (begun_after progress limit done))
   pub events : answer_events progress (processed limit done) ≡ whole_events progress done ++ end_events (begun_after progress limit done)
 
--- the answer begins with the whole pieces of the records so far
+-- the answer goes on with a front of the records that are left, and begins with the whole pieces of those so far
 pub record Begins (progress : Bool) (limit : Option ℕ) (done rest : List Yielded) : Type 0 where
+  pub answered : List Yielded
+  pub unanswered : List Yielded
+  pub split : rest ≡ answered ++ unanswered
+  pub goes_on : processed limit (done ++ rest) ≡ done ++ answered
   pub more : List Event
   pub events : answer_events progress (processed limit (done ++ rest)) ≡ whole_events progress done ++ more
 

@@ -15,7 +15,7 @@ use Rattle.select_reply.specs.Begun.{Begun, counted, begun_counts, is_full, one_
 -- what the code is told of a record
 abbrev pub yield_of : RecordYield → Yield
 yield_of told.Nothing = silent
-yield_of (told.Output bytes) = writes bytes.now
+yield_of (told.Output bytes delimiter) = writes (bytes.now ++ delimiter.now)
 yield_of (told.Fault code) = fails code
 
 abbrev pub yielded : ℕ → ℕ → Yield → Yielded

@@ -99,7 +99,7 @@ impl ReplyWriter {
                 self.count(len);
                 Ok(None)
             }
-            RecordYield::Output(bytes) => self.output(out, len, bytes),
+            RecordYield::Output { record, delimiter } => self.output(out, len, record, delimiter),
             RecordYield::Fault(code) => self.refuse(out, code, start),
         }
     }
@@ -109,22 +109,40 @@ impl ReplyWriter {
         &mut self,
         out: &mut K,
         len: u64,
-        bytes: &[u8],
+        record: &[u8],
+        delimiter: &[u8],
     ) -> Result<Option<Outcome>, Failed>
         ensures bytes { AddsAll (K.written out.old) (K.written out.new) result
-            (wrapped_frames K.wrap (output_events self.old len bytes.now)) }
-        ensures outcome { IfOk result (λ outcome. outcome ≡ output_outcome self.old len bytes.now) }
-        ensures after { IfOk result (λ outcome. outcome ≡ None → self.new ≡ after_output self.old len bytes.now) }
+            (wrapped_frames K.wrap (output_events self.old len (record.now ++ delimiter.now))) }
+        ensures outcome { IfOk result (λ outcome. outcome ≡ output_outcome self.old len (record.now ++ delimiter.now)) }
+        ensures after { IfOk result (λ outcome. outcome ≡ None → self.new ≡ after_output self.old len (record.now ++ delimiter.now)) }
         ensures faults { HasCause (K.faults out.old) (K.faults out.new) result }
         ensures rest { K.rest out.new ≡ K.rest out.old }
     {
         self.count(len);
-        self.add(out, bytes)?;
+        self.add_both(out, record, delimiter)?;
         self.use_one();
         if self.is_full() {
             return self.finish(out);
         }
         Ok(None)
+    }
+
+    // Adds two parts to the output, one behind the other.
+    fn add_both<K: FrameSink>(
+        &mut self,
+        out: &mut K,
+        first: &[u8],
+        second: &[u8],
+    ) -> Result<(), Failed>
+        ensures bytes { AddsAll (K.written out.old) (K.written out.new) result
+            (wrapped_frames K.wrap (more_events self.old (first.now ++ second.now))) }
+        ensures after { OnOk result (self.new ≡ grown self.old (first.now ++ second.now)) }
+        ensures faults { HasCause (K.faults out.old) (K.faults out.new) result }
+        ensures rest { K.rest out.new ≡ K.rest out.old }
+    {
+        self.add(out, first)?;
+        self.add(out, second)
     }
 
     // Counts a record of so many bytes.

@@ -6,8 +6,11 @@ use crate::code::Code;
 pub enum RecordYield<'r> {
     /// The condition keeps it out, or its values are only counted in totals.
     Nothing,
-    /// Its output, with the delimiter.
-    Output(&'r [u8]),
+    /// Its output: the record's bytes, and the delimiter behind them.
+    Output {
+        record: &'r [u8],
+        delimiter: &'r [u8],
+    },
     /// Its code, which ends the reply.
     Fault(Code),
 }
