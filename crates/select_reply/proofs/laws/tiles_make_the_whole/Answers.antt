@@ -1,9 +1,6 @@
 -- The replies over tiles.
-use Rattle.select_reply.proofs.Tiles.{each_extends, each_tiles_join, each_tiles_fail}
+use Rattle.select_reply.proofs.Tiles.{each_tiles_join, each_tiles_fail}
 use Rattle.select_reply.proofs.laws.tiles_make_the_whole.Goals as goal
-
-pub returns-clause-extends : goal.returns-clause-extends
-returns-clause-extends c = each_extends
 
 pub returns-clause-join : goal.returns-clause-join
 returns-clause-join c = each_tiles_join
