@@ -50,3 +50,11 @@ module _ {A : Type 0} where
       let rest = front-is (λ front. test (x ∷ front)) xs in
       let P : Bool → Type 0 = λ b. (back : List A) × (x ∷ xs ≡ (if b then [] else x ∷ shortest_front (λ front. test (x ∷ front)) xs) ++ back) in
       elim (test []) as P [ true ↦ (x ∷ xs, refl) | false ↦ (rest.0, ap (λ l. x ∷ l) rest.1) ]
+
+  -- where the list passes, so does the front that is found
+  pub front-passes : (test : List A → Bool) (xs : List A) → test xs ≡ true → test (shortest_front test xs) ≡ true
+  front-passes test [] h = h
+  front-passes test (x ∷ xs) h =
+      let rest = front-passes (λ front. test (x ∷ front)) xs h in
+      let P : Bool → Type 0 = λ b. test [] ≡ b → test (if b then [] else x ∷ shortest_front (λ front. test (x ∷ front)) xs) ≡ true in
+      (elim (test []) as P [ true ↦ (λ e. e) | false ↦ (λ e. rest) ]) refl

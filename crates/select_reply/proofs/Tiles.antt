@@ -7,13 +7,13 @@ use Rattle.std.proofs.lemmas.List.Sums.{sum_by-cons}
 use Rattle.event_frame.specs.Event.{Event, records, end, error}
 use Rattle.select_reply.specs.declared.code.Code.{Code}
 use Rattle.select_reply.specs.Pieces.{piece, cut, whole_pieces, remainder, unless_empty}
-use Rattle.select_reply.specs.Yields.{Yielded, has_fault, output, total_len, fault}
-use Rattle.select_reply.specs.Answers.{shortest_front, is_answered, processed}
+use Rattle.select_reply.specs.Yields.{Yield, Yielded, has_fault, output, total_len, fault}
+use Rattle.select_reply.specs.Answers.{shortest_front, is_answered, processed, totals_record, unless_faulty, TotalsAreOneMore}
 use Rattle.select_reply.specs.Events.{progress_at, piece_events, whole_events, closing_events, answer_events, payload, payloads}
 use Rattle.select_reply.specs.Replies.{Extends, EachExtends}
 use Rattle.select_reply.specs.Tilings.{joined, payload_of, payloads_of, TilesJoin, EachTilesJoin, TilesFail, EachTilesFail}
-use Rattle.select_reply.proofs.Fronts.{front-behind, front-within, front-same}
-use Rattle.select_reply.proofs.Processing.{output-append, total_len-append, has_fault-append, processed-all, no_front, fault-append, fault-none}
+use Rattle.select_reply.proofs.Fronts.{front-behind, front-within, front-same, front-passes}
+use Rattle.select_reply.proofs.Processing.{output-append, total_len-append, has_fault-append, processed-all, processed-one, no_front, fault-append, fault-none}
 use Rattle.select_reply.proofs.Growing.{whole_events-front}
 
 pub each_extends : EachExtends
@@ -155,3 +155,20 @@ each_tiles_fail progress front tile back h g =
   where
     same_front : (fs : List Yielded) → has_fault fs ≡ false → (ts : List Yielded) → shortest_front (λ front. has_fault (fs ++ front)) ts ≡ processed None ts
     same_front fs h ts = front-same (λ front. has_fault (fs ++ front)) has_fault ts (λ front. has_fault-append fs front ∙ ap (λ b. b || has_fault front) h)
+
+-- ---- totals
+
+totals_by : (ys : List Yielded) (totals : Yield) (b : Bool) → has_fault ys ≡ b → unless_faulty (processed None ys) totals ≡ processed None (ys ++ totals_record ys totals ∷ [])
+totals_by ys totals true h =
+    let faulty : has_fault (processed None ys) ≡ true = front-passes has_fault ys h in
+    rw faulty (sym (front-within has_fault ys (totals_record ys totals ∷ []) h))
+totals_by ys totals false h =
+    let all = processed-all None ys h in
+    ap (λ l. unless_faulty l totals) all ∙ rw h (sym (last_one (has_fault (ys ++ totals_record ys totals ∷ [])) refl))
+  where
+    last_one : (b : Bool) → has_fault (ys ++ totals_record ys totals ∷ []) ≡ b → processed None (ys ++ totals_record ys totals ∷ []) ≡ ys ++ totals_record ys totals ∷ []
+    last_one true g = processed-one None ys (totals_record ys totals) [] h g
+    last_one false g = processed-all None (ys ++ totals_record ys totals ∷ []) g
+
+pub totals_are_one_more : TotalsAreOneMore
+totals_are_one_more ys totals = totals_by ys totals (has_fault ys) refl

@@ -1,5 +1,5 @@
 -- Which records a query processes: it ends at its LIMIT, or at the first record that yields a code.
-use Rattle.std.specs.Prelude.{ℕ, zero, suc, Bool, ◌||◌, nat_le, List, [], ◌∷◌, ◌++◌, Option, None, Some, if◌then◌else◌}
+use Rattle.std.specs.Prelude.{◌≡◌, ℕ, zero, suc, Bool, ◌||◌, nat_le, List, [], ◌∷◌, ◌++◌, Option, None, Some, if◌then◌else◌}
 use Rattle.select_reply.specs.Yields.{Yield, Yielded, outputs, has_fault}
 
 -- the shortest front that passes the test, or else the whole list
@@ -35,3 +35,7 @@ abbrev pub processed_with_totals : Option ℕ → List Yielded → Yield → Lis
 processed_with_totals None ys totals = unless_faulty (processed None ys) totals
 processed_with_totals (Some zero) ys totals = []
 processed_with_totals (Some (suc n)) ys totals = unless_faulty (processed None ys) totals
+
+-- such records are those that are processed where the record of totals is one more of them
+abbrev pub TotalsAreOneMore : Type 0
+TotalsAreOneMore = (ys : List Yielded) (totals : Yield) → unless_faulty (processed None ys) totals ≡ processed None (ys ++ totals_record ys totals ∷ [])

@@ -1,4 +1,5 @@
 //! Laws of a reply that grows record by record.
+ghost use Rattle.select_reply.specs.Answers.{TotalsAreOneMore};
 ghost use Rattle.select_reply.specs.Replies.{EachStepsOn, EachStepsOut, EachStops, EachBegins, EachExtends};
 ghost use Rattle.select_reply.specs.Tilings.{EachTilesJoin, EachTilesFail};
 
@@ -20,4 +21,10 @@ pub fn replies_grow_by_records()
 pub fn tiles_make_the_whole()
     ensures join { EachTilesJoin }
     ensures fail { EachTilesFail }
+{}
+
+/// A law: with aggregates the records that are processed are those of a query without them whose records end with the record of
+/// totals. So a writer is given the totals as one more record.
+pub fn totals_are_one_more_record()
+    ensures { TotalsAreOneMore }
 {}

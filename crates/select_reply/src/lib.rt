@@ -9,7 +9,7 @@ mod writer;
 mod yields;
 
 pub use code::{Code, message};
-pub use laws::{replies_grow_by_records, tiles_make_the_whole};
+pub use laws::{replies_grow_by_records, tiles_make_the_whole, totals_are_one_more_record};
 pub use outcome::Outcome;
 pub use writer::ReplyWriter;
 pub use yields::RecordYield;
