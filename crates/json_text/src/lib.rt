@@ -16,4 +16,5 @@ mod trim;
 
 pub use crate::checking::{JsonCode, JsonFault, check};
 pub use crate::elements::Elements;
+pub use crate::members::{JsonMember, Members};
 pub use crate::node::{JsonNode, Kind};
