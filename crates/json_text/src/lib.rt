@@ -9,9 +9,11 @@ mod machine;
 mod members;
 mod nest;
 mod node;
+mod runs;
 mod skip;
 #[cfg(test)]
 mod tests;
+mod tokens;
 mod trim;
 
 pub use crate::checking::{JsonCode, JsonFault, check};
