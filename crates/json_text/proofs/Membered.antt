@@ -1,6 +1,6 @@
 -- The member that comes next.
 use Rattle.std.proofs.Common.{◌≡◌, ℕ, zero, suc, ◌+◌, ◌-◌, ◌<◌, ◌≤◌, Bool, true, false, cond, ◌==◌, List, [], ◌∷◌, ◌++◌, length, take, drop, get_or, lit<, add-one, length-drop, length-append, refl, sym, ◌∙◌, ap, subst, arith}
-use Rattle.std.specs.Prelude.{slice_range, slice_get, Option, Some, None}
+use Rattle.std.specs.Prelude.{slice_range, slice_get, Some, None}
 use Rattle.std.specs.List.{find}
 use Rattle.text_view.specs.JsonString.{unescaped_text}
 use Rattle.std.proofs.Math.Bridge.{le_prop}
@@ -17,7 +17,7 @@ use Rattle.json_text.specs.Nodes.{IsNode, Spells}
 use Rattle.json_text.specs.Walks.{Cursor, comma_place}
 use Rattle.json_text.specs.Naming.{Named, value_place, members_from, members_of, IsClosed, no_bytes, at_brace, Coming, member_due, members_over, IsFirstMember, IsNextMember, SplitMember, IsMemberWalk, IsMemberAt, IsPlacedValueOf, object_start}
 use Rattle.json_text.proofs.Prints.{skip_app}
-use Rattle.json_text.proofs.Skips.{Stops, inside_rest}
+use Rattle.json_text.proofs.Skips.{inside_rest}
 use Rattle.json_text.proofs.Walking.{behind_drop, byte_at, Head, Walked, met, comma_yes, drop_all, is_node}
 
 -- a walk that found a name's opening quotation mark, the place behind its closing one, and the colon
@@ -84,11 +84,6 @@ name_met bytes at quote close colon before name gap behind w u hb hn hg e =
       begins = IsCharBoundary-after_ascii bytes quote u q.0 low;
       ends = IsCharBoundary-before_ascii bytes (close - 1) m.0 low_end;
     }
-
-members_stop : (ms : Members) (rest : List ℕ) → Stops (print_members ms rest)
-unfolding print
-members_stop no_members rest = refl
-members_stop (more_members m ms) rest = refl
 
 members_head : (ms : Members) (rest : List ℕ) → Head (print_members ms rest)
 unfolding print

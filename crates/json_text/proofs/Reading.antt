@@ -1,13 +1,13 @@
 -- The reader's verdict along a token.
-use Rattle.std.proofs.Common.{◌≡◌, ℕ, zero, suc, ◌+◌, ◌<◌, ◌≤◌, Bool, true, false, cond, ◌&&◌, ◌==◌, List, [], ◌∷◌, length, drop, get_or, Option, Some, None, add-one, one-add, drop-cons, ◌⊎◌, inl, inr, nat_lt, refl, sym, ◌∙◌, ap, subst, arith}
+use Rattle.std.proofs.Common.{◌≡◌, ℕ, zero, suc, ◌+◌, ◌<◌, ◌≤◌, Bool, true, false, cond, ◌&&◌, ◌==◌, List, [], ◌∷◌, length, drop, get_or, Some, None, add-one, one-add, drop-cons, inl, inr, nat_lt, refl, sym, ◌∙◌, ap, arith}
 use Rattle.std.specs.List.{prefix_len}
 use Rattle.std.proofs.lemmas.Bool.Decides.{nat_tests}
 use Rattle.std.proofs.lemmas.List.{length-drop, get_or-drop}
 use Rattle.std.proofs.lemmas.List.Sums.{prefix_len_stops}
-use Rattle.json_text.specs.Grammar.{is_blank, is_digit, is_nonzero_digit}
-use Rattle.json_text.specs.Machine.{class, step, Verdict, accepted, unfit, may_end, is_outside, moved, verdict, around_of, part_next, closes, to_text, to_name, number_next, may_end_number, digits_move, behind_number, after_move, word_move, may_end_value, colon_move}
-use Rattle.json_text.specs.Judged.{after_taken, Takes, IsReached, Closes, behind_string, IsWithin, spelling_move, mode_of}
-use Rattle.json_text.specs.Runs.{is_special, is_plain}
+use Rattle.json_text.specs.Grammar.{is_blank, is_digit}
+use Rattle.json_text.specs.Machine.{class, step, accepted, unfit, may_end, is_outside, moved, verdict, around_of, part_next, closes, to_text, to_name, number_next, may_end_number, digits_move, behind_number, word_move, may_end_value, colon_move}
+use Rattle.json_text.specs.Judged.{after_taken, Takes, Closes, spelling_move}
+use Rattle.json_text.specs.Runs.{is_plain}
 use Rattle.json_text.proofs.Classes.{Means, class_means, class_digit}
 use Rattle.json_text.specs.declared.bytes.Class.{Class}
 use Rattle.json_text.specs.declared.bytes.Class.TheVariants.{Blank, Colon, Zero, Nonzero}
@@ -15,14 +15,12 @@ use Rattle.json_text.specs.declared.machine.Mode.{Mode}
 use Rattle.json_text.specs.declared.machine.Mode.TheVariants.{ValueDue, ColonDue, Ended, InWord, InNumber, InText, InName}
 use Rattle.json_text.specs.declared.machine.Letters.{Letters}
 use Rattle.json_text.specs.declared.machine.Digits.{Digits}
-use Rattle.json_text.specs.declared.machine.Digits.TheVariants.{InInt, InFrac, InExp}
 use Rattle.json_text.specs.declared.machine.Part.{Part}
 use Rattle.json_text.specs.declared.machine.Part.TheVariants.{Inside}
 use Rattle.json_text.specs.declared.machine.Around.{Around}
 use Rattle.json_text.specs.declared.machine.Move.{Move}
 use Rattle.json_text.specs.declared.machine.Move.TheVariants.{To, Refuse}
 use Rattle.json_text.specs.declared.machine.Due.TheVariants.{Value, Rest}
-use Rattle.json_text.specs.declared.machine.Spelling.{Spelling}
 use Rattle.json_text.specs.declared.machine.Spelling.TheVariants.{More, Whole, Wrong}
 use Rattle.json_text.specs.declared.tokens.Taken.{Taken}
 use Rattle.json_text.specs.declared.tokens.Taken.TheVariants.{Next, Refused}
@@ -33,7 +31,7 @@ drop_nil : (k : ℕ) → drop {A = ℕ} k [] ≡ []
 drop_nil zero = refl
 drop_nil (suc k) = refl
 
-drop_past : (s : List ℕ) (n : ℕ) → length s ≤ n → drop n s ≡ []
+pub drop_past : (s : List ℕ) (n : ℕ) → length s ≤ n → drop n s ≡ []
 drop_past [] n h = drop_nil n
 drop_past (x ∷ xs) zero h = absurd (omega arith)
 drop_past (x ∷ xs) (suc n) h = drop_past xs n (omega arith)
@@ -94,7 +92,7 @@ run test m nest h [] at = ap (verdict [] m nest) (zero_more at)
     zero_more n = omega arith
 run test m nest h (c ∷ cs) at = run_step c cs m nest at (prefix_len test cs) (test c) (h c) (run test m nest h cs (suc at))
 
-drop_more : (s : List ℕ) (i n : ℕ) → drop n (drop i s) ≡ drop (i + n) s
+pub drop_more : (s : List ℕ) (i n : ℕ) → drop n (drop i s) ≡ drop (i + n) s
 drop_more s zero n = ap (λ k. drop k s) (zero_first n)
   where
     zero_first : (k : ℕ) → k ≡ 0 + k
@@ -237,13 +235,6 @@ pub number_on : (bytes : List ℕ) (d : Digits) (at : ℕ) → at < length bytes
 unfolding step
 number_on bytes d at h next taken e x =
     takes_on taken bytes (InNumber d) (InNumber next) at h (λ nest. ap (λ o. digits_move o d (around_of nest) (class (get_or bytes at 0))) e) x
-
-reached_by : (b : Bool) (at from end : ℕ) → from ≤ at → at ≤ end → IsReached from end (cond b (Next Rest at) (Refused at))
-reached_by true at from end l h = (l, h)
-reached_by false at from end l h = tt
-
-pub number_reached : (taken : Taken) (b : Bool) (at from end : ℕ) → taken ≡ cond b (Next Rest at) (Refused at) → from ≤ at → at ≤ end → IsReached from end taken
-number_reached taken b at from end e l h = subst (IsReached from end) (sym e) (reached_by b at from end l h)
 
 -- ---- words
 

@@ -97,19 +97,9 @@ head_boundary s k h x =
 
 -- ---- the next element
 
-elements_stop : (es : Elements) (rest : List ℕ) → Stops (print_elements es rest)
-unfolding print
-elements_stop no_elements rest = refl
-elements_stop (more_elements x xs) rest = refl
-
 pub blanks_stop : (bs rest : List ℕ) → AreBlanks bs → Stops rest → Stops (bs ++ rest)
 blanks_stop [] rest h s = s
 blanks_stop (b ∷ bs) rest h s = ap (λ t. t || b == 44 || is_close b) h.0
-
-elements_front : (es : Elements) (rest : List ℕ) → skip_blanks (print_elements es rest) ≡ print_elements es rest
-unfolding print
-elements_front no_elements rest = refl
-elements_front (more_elements x xs) rest = refl
 
 elements_head : (es : Elements) (rest : List ℕ) → Head (print_elements es rest)
 unfolding print

@@ -43,7 +43,7 @@ fn take(bytes: &[u8], at: usize, due: Due, nest: &mut Nest) -> Taken
     ensures value { after_taken result bytes.now nest.new ≡ verdict (drop at bytes.now) (mode_of due) nest.old at }
     ensures reached { IsReached (at + 1) (length bytes.now) result }
 {
-    match step_of(due, nest.around(), bytes[at]) {
+    match step_of(due, nest, bytes[at]) {
         Move::To(mode) => finish(bytes, at + 1, mode),
         Move::OpenArray => {
             if nest.open_array() {

@@ -11,8 +11,6 @@ mod nest;
 mod node;
 mod runs;
 mod skip;
-#[cfg(test)]
-mod tests;
 mod tokens;
 mod trim;
 

@@ -1,12 +1,13 @@
 //! What each byte of a JSON text does to a reader that remembers what is due and which brackets are open.
 ghost use Rattle.std.specs.Prelude.{◌≡◌, if◌then◌else◌};
-ghost use Rattle.json_text.specs.Machine.{after_move, value_move, first_element_move, name_move, first_name_move, word_move, number_next, may_end_number, part_next, closes, step, comma_move, escape_next, part_if};
+ghost use Rattle.json_text.specs.Machine.{after_move, value_move, first_element_move, name_move, first_name_move, word_move, number_next, may_end_number, part_next, closes, step, around_of, comma_move, escape_next, part_if};
 ghost use Rattle.json_text.specs.Judged.{mode_of, spelling_move};
 
 use crate::bytes::{
     Class, class_of, is_below_8, is_escape_letter, is_hex, is_high_digit, is_low_digit,
     is_surrogate_digit,
 };
+use crate::nest::Nest;
 
 /// What is due.
 #[derive(Clone, Copy)]
@@ -129,16 +130,15 @@ pub(crate) enum Move {
 /// What a byte does where no token is open.
 #[inline(always)]
 #[tactic(auto, unfolding(crate::specs::Machine::step))]
-pub(crate) fn step_of(due: Due, around: Around, byte: u8) -> Move
-    ensures { result ≡ step (mode_of due) around byte }
+pub(crate) fn step_of(due: Due, nest: &Nest, byte: u8) -> Move
+    ensures { result ≡ step (mode_of due) (around_of nest.now) byte }
 {
-    let class = class_of(byte);
     match due {
-        Due::Value => value(class),
-        Due::FirstValue => first_element(class),
-        Due::Name => name(class),
-        Due::FirstName => first_name(class),
-        Due::Rest => after(around, class),
+        Due::Value => value(class_of(byte)),
+        Due::FirstValue => first_element(class_of(byte)),
+        Due::Name => name(class_of(byte)),
+        Due::FirstName => first_name(class_of(byte)),
+        Due::Rest => after(nest.around(), class_of(byte)),
     }
 }
 

@@ -142,6 +142,7 @@ fn ended(digits: Digits, at: usize) -> Taken
 }
 
 /// The rest of a string, of which `part` was read.
+#[inline(always)]
 fn string_of(bytes: &[u8], from: usize, part: Part) -> StringEnd
     requires { from ≤ length bytes.now }
     ensures value { Closes bytes.now part from result }
