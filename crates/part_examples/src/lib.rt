@@ -7,6 +7,8 @@ mod decimals;
 #[cfg(test)]
 mod grammars;
 #[cfg(test)]
+mod json;
+#[cfg(test)]
 mod masks;
 #[cfg(test)]
 mod texts;
