@@ -1,0 +1,3 @@
+pub mod Dialects
+pub mod Fields
+pub mod Walk

@@ -1,0 +1,9 @@
+//! Tells the fields of a CSV line, in any dialect, and the records of an object whose quoted fields may hold record delimiters.
+#![tactic(auto)]
+
+mod dialect;
+mod laws;
+mod walk;
+
+pub use crate::dialect::Dialect;
+pub use crate::laws::line_has_one_reading;
