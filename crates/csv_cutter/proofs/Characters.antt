@@ -36,3 +36,9 @@ apart d h = record {
   quote = grind (arith, nat_tests);
   escape = grind (arith, nat_tests);
 }
+
+pub quote_low : (d : Dialect) → is_valid d ≡ true → d.quote < 128
+quote_low d h = (apart d h).quote
+
+pub escape_low : (d : Dialect) → is_valid d ≡ true → d.escape < 128
+escape_low d h = (apart d h).escape

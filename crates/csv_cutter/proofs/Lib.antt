@@ -1,2 +1,5 @@
 pub mod Characters
 pub mod Lines
+pub mod Places
+pub mod Spelling
+pub mod Cuts

@@ -10,7 +10,7 @@ use Rattle.csv_cutter.specs.declared.walk.State.{State}
 use Rattle.csv_cutter.specs.declared.walk.State.TheVariants.{Start, Tail, Inside, Paired}
 use Rattle.csv_cutter.specs.Dialects.{is_valid}
 use Rattle.csv_cutter.specs.Fields.{begins_with, IsUncut, SpellsField, plain, closed, SpellsOpen, BeginsWithField, last_field, last_open, more_fields, SpellsTexts, SpellsFields, IsClosed, text_of}
-use Rattle.csv_cutter.specs.Walk.{is_outside, special, is_cut, step, cut_from, cut_fields, Goes}
+use Rattle.csv_cutter.specs.Walk.{is_outside, special, is_cut, step, cut_from, cut_fields, Goes, onto}
 use Rattle.csv_cutter.proofs.Characters.{eq_self, eq_not, eq_is, not_eq, clash, IsApart, apart}
 
 -- ---- a walk, step by step
@@ -29,11 +29,6 @@ cut_here d s c cs h = cut_cons d s c cs ∙ ap (λ b. cond b ([] ∷ cut_from d 
 
 pub cut_onwards : (d : Dialect) (s : State) (c : ℕ) (cs : List ℕ) → is_cut d s c ≡ false → cut_from d s (c ∷ cs) ≡ onto_first c (cut_from d (step d s c (special d cs)) cs)
 cut_onwards d s c cs h = cut_cons d s c cs ∙ ap (λ b. cond b ([] ∷ cut_from d Start cs) (onto_first c (cut_from d (step d s c (special d cs)) cs))) h
-
--- characters put before the first of some lists
-abbrev pub onto : List ℕ → List (List ℕ) → List (List ℕ)
-onto [] parts = parts
-onto (c ∷ cs) parts = onto_first c (onto cs parts)
 
 pub onto_cons : (us p : List ℕ) (ps : List (List ℕ)) → onto us (p ∷ ps) ≡ (us ++ p) ∷ ps
 onto_cons [] p ps = refl
@@ -88,7 +83,7 @@ inside_escape d x h = let both : (d.escape == d.escape && x) ≡ true = rw (eq_s
 
 -- ---- what the parts of a field do
 
-tail_goes : (d : Dialect) (v rest : List ℕ) → IsUncut d v → Goes d Tail v rest Tail
+pub tail_goes : (d : Dialect) (v rest : List ℕ) → IsUncut d v → Goes d Tail v rest Tail
 tail_goes d [] rest h = refl
 tail_goes d (c ∷ cs) rest h = goes_one d Tail Tail Tail c cs rest h.0 (tail_stays d c (special d (cs ++ rest)) h.0) (tail_goes d cs rest h.1)
 

@@ -1,3 +1,4 @@
 pub mod Dialects
 pub mod Fields
+pub mod Reading
 pub mod Walk

@@ -2,8 +2,10 @@
 #![tactic(auto)]
 
 mod dialect;
+mod fields;
 mod laws;
 mod walk;
 
 pub use crate::dialect::Dialect;
+pub use crate::fields::{CsvFault, Fields, Spans};
 pub use crate::laws::line_has_one_reading;
