@@ -1,5 +1,5 @@
 -- A walk over the bytes of a line goes as one over its characters.
-use Rattle.std.proofs.Common.{◌≡◌, ◌≢◌, ℕ, zero, suc, ◌+◌, ◌-◌, ◌≤◌, ◌<◌, Bool, true, false, cond, ◌&&◌, ◌||◌, ◌==◌, List, [], ◌∷◌, ◌++◌, map, take, drop, length, slice_index, slice_range, refl, sym, ◌∙◌, ap, subst, arith, append_assoc, length-append, length-drop, ⊎_elim, inl, inr, ◌⊎◌}
+use Rattle.std.proofs.Common.{◌↔◌, ◌≡◌, ◌≢◌, ℕ, zero, suc, ◌+◌, ◌-◌, ◌≤◌, ◌<◌, Bool, true, false, cond, ◌&&◌, ◌||◌, ◌==◌, List, [], ◌∷◌, ◌++◌, map, take, drop, length, slice_index, slice_range, refl, sym, ◌∙◌, ap, subst, arith, append_assoc, length-append, length-drop, ⊎_elim, inl, inr, ◌⊎◌}
 use Rattle.std.proofs.lemmas.Bool.{cases_lt}
 use Rattle.std.proofs.lemmas.Bool.Decides.{nat_tests}
 use Rattle.std.proofs.lemmas.List.{append-nil}
@@ -12,6 +12,8 @@ use Rattle.csv_cutter.specs.declared.dialect.Dialect.{Dialect}
 use Rattle.csv_cutter.specs.declared.walk.State.{State}
 use Rattle.csv_cutter.specs.declared.walk.State.TheVariants.{Start, Tail, Inside, Paired}
 use Rattle.csv_cutter.specs.Fields.{begins_with}
+use Rattle.csv_cutter.specs.Reading.{IsPlainSpelled}
+use Rattle.text_view.specs.QuotedField.{IsPlainField}
 use Rattle.csv_cutter.specs.Walk.{is_outside, special, is_cut, step, cut_from, cut_fields, Goes, onto}
 use Rattle.csv_cutter.proofs.Characters.{eq_self, eq_not, eq_is, not_eq, clash, IsApart}
 use Rattle.csv_cutter.proofs.Lines.{goes_cut, goes_one, onto_cons, cut_nil, cut_here, cut_onwards}
@@ -192,3 +194,9 @@ other_front bs (c ∷ cs) q low e h = by_test (c == q) refl
 pub no_quote_front : (bs : List ℕ) (q : ℕ) → IsUtf8 bs → q < 128 → (0 < length bs → slice_index bs 0 ≢ q) → begins_with q (chars bs) ≡ false
 no_quote_front [] q u low h = ap (begins_with q) chars-nil
 no_quote_front (b ∷ bs) q u low h = other_front (b ∷ bs) (chars (b ∷ bs)) q low (encodes-chars (b ∷ bs) u) (h (omega arith))
+
+-- a field behind its quote is a slice of itself exactly where the whole field is
+pub plain_behind : (d : Dialect) (spelled raw : List ℕ) (P : Type 0) → spelled ≡ d.quote ∷ raw → P ↔ IsPlainField d.quote d.escape raw → P ↔ IsPlainSpelled d spelled
+plain_behind d spelled raw P e h =
+    let Q : List ℕ → Type 0 = IsPlainSpelled d in
+    ((λ p. subst Q (sym e) (λ same. h.0 p)), λ q. h.1 (let all : IsPlainSpelled d (d.quote ∷ raw) = subst Q e q in all refl))

@@ -76,4 +76,3 @@ pub record IsLegible (line : List ℕ) (span : Span) : Type 0 where
   pub ordered : span.start ≤ span.end
   pub from : IsCharBoundary line span.start
   pub until : IsCharBoundary line span.end
-

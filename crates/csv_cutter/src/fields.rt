@@ -152,7 +152,11 @@ fn cut_spans(dialect: &Dialect, line: &[u8], spans: &mut [Span]) -> Option<usize
 impl<'r> Fields<'r> {
     /// The fields of a line in a valid dialect. The line is a record without its delimiter.
     #[inline]
-    pub fn of(dialect: &Dialect, line: &'r [u8], spans: &'r mut Spans) -> Result<Fields<'r>, CsvFault>
+    pub fn of(
+        dialect: &Dialect,
+        line: &'r [u8],
+        spans: &'r mut Spans,
+    ) -> Result<Fields<'r>, CsvFault>
         requires valid { is_valid dialect.now ≡ true }
         requires short { length line.now < 2 ^ 31 }
         ensures { IsRead dialect.now line.now result }

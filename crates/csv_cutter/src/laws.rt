@@ -5,5 +5,4 @@ ghost use Rattle.csv_cutter.specs.Fields.{EachLineHasFields, FieldsAreOne};
 pub fn line_has_one_reading()
     ensures some { EachLineHasFields }
     ensures one { FieldsAreOne }
-{
-}
+{}

@@ -13,7 +13,7 @@ pub returns : goal.returns
 returns c =
     plain_field c.args.dialect.now c.args.line.now c.args.start c.next_byte-2.result c.requires.within
     (λ l. elim c.else-start-line.branch [
-      else-start-line-via-then-start-line+else-line-start w ↦ w.if-line-start.false
-    | else-start-line-via-else-start-line w ↦ absurd (omega arith)
+      | else-start-line-via-then-start-line+else-line-start w ↦ w.if-line-start.false
+      | else-start-line-via-else-start-line w ↦ absurd (omega arith)
     ])
     c.next_byte-2.ensures
