@@ -13,7 +13,7 @@ use Rattle.byte_masks.specs.Walks.{HasNone}
 use Rattle.byte_masks.specs.Parts.{part, Cuts, IsPlain, IsWithin}
 use Rattle.csv_cutter.specs.declared.dialect.Dialect.{Dialect}
 use Rattle.csv_cutter.specs.declared.walk.State.{State}
-use Rattle.csv_cutter.specs.declared.walk.State.TheVariants.{Start, Tail, Inside, Paired}
+use Rattle.csv_cutter.specs.declared.walk.State.TheVariants.{Start, Tail, Inside, Paired, Comment}
 use Rattle.csv_cutter.specs.Fields.{SpellsFields, text_of}
 use Rattle.csv_cutter.specs.Walk.{is_outside, special, is_cut, step, cut_from, cut_fields, Goes, onto, Comes, EndsField, IsLegible}
 use Rattle.csv_cutter.specs.Reading.{text_at, texts_at, HasFields, HasTooMany, AreFirst, IsFilled, IsRead}
@@ -138,6 +138,7 @@ cut_plain d s (c ∷ cs) o h = by_cut s o (λ t p. cut_plain d t cs p h.1) (c ==
         ∙ sym (ap (λ b. cond b ([] ∷ slice_split (is_byte d.field) cs) (onto_first c (slice_split (is_byte d.field) cs))) e)
     by_cut Inside o ih b e = absurd (clash (sym o))
     by_cut Paired o ih b e = absurd (clash (sym o))
+    by_cut Comment o ih b e = absurd (clash (sym o))
 
 unquoted_line : (quote : ℕ) (line : List ℕ) → HasNone quote line 0 (length line) → NonePass (λ c. c == quote) line
 unquoted_line quote line h =

@@ -3,3 +3,4 @@ pub mod Lines
 pub mod Places
 pub mod Spelling
 pub mod Cuts
+pub mod Stopping

@@ -178,7 +178,7 @@ field_goes d a w text rest (closed pieces tail h u b s t) e =
 pub field_cut : (d : Dialect) → IsApart d → (w text rest : List ℕ) → SpellsField d w text → special d rest ≡ false → cut_from d Start (w ++ rest) ≡ onto w (cut_from d Tail rest)
 field_cut d a w text rest f e = let g = field_goes d a w text rest f e in goes_cut d Start w rest g.state g.goes ∙ ap (onto w) g.same
 
-open_goes : (d : Dialect) → IsApart d → (w text : List ℕ) → SpellsOpen d w text → Goes d Start w [] Inside
+pub open_goes : (d : Dialect) → IsApart d → (w text : List ℕ) → SpellsOpen d w text → Goes d Start w [] Inside
 open_goes d a w text o =
     let P : List ℕ → Type 0 = λ l. Goes d Start l [] Inside in
     subst P (sym o.opened) (opened_goes d a o.pieces [] [] Inside o.valid refl)
@@ -204,7 +204,7 @@ open_text_of d w text o =
 
 -- ---- a line has no other fields
 
-no_special : (d : Dialect) → IsApart d → (rest : List ℕ) → special d (d.field ∷ rest) ≡ false
+pub no_special : (d : Dialect) → IsApart d → (rest : List ℕ) → special d (d.field ∷ rest) ≡ false
 no_special d a rest = rw (eq_not d.field d.quote a.field_quote, eq_not d.field d.escape a.field_escape) refl
 
 cut_last : (d : Dialect) (s : State) (w : List ℕ) → Goes d Start w [] s → cut_fields d w ≡ w ∷ []

@@ -10,7 +10,7 @@ use Rattle.std.specs.Char.{encode_utf8, IsScalar}
 use Rattle.std.specs.List.{onto_first}
 use Rattle.csv_cutter.specs.declared.dialect.Dialect.{Dialect}
 use Rattle.csv_cutter.specs.declared.walk.State.{State}
-use Rattle.csv_cutter.specs.declared.walk.State.TheVariants.{Start, Tail, Inside, Paired}
+use Rattle.csv_cutter.specs.declared.walk.State.TheVariants.{Start, Tail, Inside, Paired, Comment}
 use Rattle.csv_cutter.specs.Fields.{begins_with}
 use Rattle.csv_cutter.specs.Reading.{IsPlainSpelled}
 use Rattle.text_view.specs.QuotedField.{IsPlainField}
@@ -40,6 +40,7 @@ settled Start = Tail
 settled Tail = Tail
 settled Inside = Inside
 settled Paired = Inside
+settled Comment = Comment
 
 and_none : (x y : Bool) → y ≡ false → (x && y) ≡ false
 and_none true y e = e
@@ -61,12 +62,14 @@ high_step d a Inside b x h =
     ap (λ t. cond t Paired (cond (b == d.quote) Tail Inside)) (none_and (b == d.escape) x (eq_not b d.escape (λ e. omega (arith, a.escape))))
     ∙ ap (λ t. cond t Tail Inside) (eq_not b d.quote (λ e. omega (arith, a.quote)))
 high_step d a Paired b x h = refl
+high_step d a Comment b x h = refl
 
 settled_twice : (s : State) → settled (settled s) ≡ settled s
 settled_twice Start = refl
 settled_twice Tail = refl
 settled_twice Inside = refl
 settled_twice Paired = refl
+settled_twice Comment = refl
 
 more_high : (d : Dialect) → IsApart d → (s : State) (bs rest : List ℕ) → settled s ≡ s → AreHigh bs → Goes d s bs rest s
 more_high d a s [] rest e h = refl

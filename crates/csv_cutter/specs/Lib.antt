@@ -1,4 +1,6 @@
 pub mod Dialects
 pub mod Fields
 pub mod Reading
+pub mod Records
+pub mod Stops
 pub mod Walk

@@ -7,7 +7,7 @@ use Rattle.std.specs.List.{onto_first}
 use Rattle.text_view.specs.QuotedField.{begins_special}
 use Rattle.csv_cutter.specs.declared.dialect.Dialect.{Dialect}
 use Rattle.csv_cutter.specs.declared.walk.State.{State}
-use Rattle.csv_cutter.specs.declared.walk.State.TheVariants.{Start, Tail, Inside, Paired}
+use Rattle.csv_cutter.specs.declared.walk.State.TheVariants.{Start, Tail, Inside, Paired, Comment}
 
 -- no quoted part is open
 abbrev pub is_outside : State → Bool
@@ -15,6 +15,7 @@ is_outside Start = true
 is_outside Tail = true
 is_outside Inside = false
 is_outside Paired = false
+is_outside Comment = false
 
 -- the characters begin with the quote or the escape
 abbrev pub special : Dialect → List ℕ → Bool
@@ -30,6 +31,7 @@ step d Start c paired = if c == d.field then Start else (if c == d.quote then In
 step d Tail c paired = if c == d.field then Start else Tail
 step d Inside c paired = if c == d.escape && paired then Paired else (if c == d.quote then Tail else Inside)
 step d Paired c paired = Inside
+step d Comment c paired = Comment
 
 -- the spelled fields of what is left of a line
 unfoldable pub cut_from : Dialect → State → List ℕ → List (List ℕ)

@@ -8,4 +8,4 @@ mod walk;
 
 pub use crate::dialect::Dialect;
 pub use crate::fields::{CsvFault, Fields, Spans};
-pub use crate::laws::line_has_one_reading;
+pub use crate::laws::{line_has_one_reading, object_has_one_cutting};

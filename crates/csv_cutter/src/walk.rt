@@ -8,14 +8,15 @@ ghost use Rattle.csv_cutter.specs.declared.walk.State.TheVariants.{Inside, Tail}
 use crate::Dialect;
 use memchr::{memchr, memchr2};
 
-/// Where a walk over a line stands: at a field's start, behind the part of a field that may hold a field byte, in a quoted part, or in
-/// one behind an escape that is read together with the next byte.
+/// Where a walk over a record stands: at a field's start, behind the part of a field that may hold a field byte, in a quoted part, in one
+/// behind an escape that is read together with the next byte, or in a comment.
 #[derive(Clone, Copy, PartialEq, Eq, Debug)]
 pub(crate) enum State {
     Start,
     Tail,
     Inside,
     Paired,
+    Comment,
 }
 
 /// The first place of a byte from `from` on, or the line's end.
