@@ -1,12 +1,12 @@
 -- What a valid dialect's characters are.
-use Rattle.std.proofs.Common.{◌≡◌, ◌≢◌, ℕ, ◌<◌, Bool, true, false, ◌&&◌, ◌||◌, ◌==◌, not, List, [], ◌∷◌, refl, sym, ◌∙◌, ap, arith}
+use Rattle.std.proofs.Common.{◌≡◌, ◌≢◌, ℕ, ◌<◌, Bool, true, false, ◌&&◌, ◌||◌, ◌==◌, not, ◌≤◌, length, List, [], ◌∷◌, refl, sym, ◌∙◌, ap, arith}
 use Rattle.std.proofs.lemmas.Bool.Decides.{nat_tests}
 use Rattle.csv_cutter.specs.declared.dialect.Dialect.{Dialect}
 use Rattle.select_request.specs.declared.request.Delimiter.{Delimiter}
 use Rattle.select_request.specs.declared.request.Delimiter.TheVariants.{One, Two}
 use Rattle.select_request.specs.Values.{holds, is_character}
 use Rattle.select_request.specs.Printable.{is_delimiter, is_varied}
-use Rattle.csv_cutter.specs.Dialects.{is_valid, has_characters, is_apart, delimiter_bytes}
+use Rattle.csv_cutter.specs.Dialects.{is_valid, has_characters, is_apart, delimiter_bytes, first_of}
 
 pub eq_self : (c : ℕ) → (c == c) ≡ true
 eq_self c = grind (arith, nat_tests)
@@ -49,10 +49,6 @@ escape_low d h = (apart d h).escape
 
 -- ---- the record delimiter
 
-abbrev pub first_of : Delimiter → ℕ
-first_of (One a) = a
-first_of (Two a b) = a
-
 abbrev pub more_of : Delimiter → List ℕ
 more_of (One a) = []
 more_of (Two a b) = b ∷ []
@@ -81,6 +77,9 @@ pub record Delimits (d : Dialect) : Type 0 where
   pub quote : first ≢ d.quote
   pub escape : first ≢ d.escape
   pub comment : first ≢ d.comment
+  pub field : first ≢ d.field
+  pub short : length more ≤ 1
+  pub named : first_of d.delimiter ≡ first
   pub low : first < 128
 
 -- what a valid dialect says of its delimiter
@@ -88,6 +87,7 @@ record Parted (d : Dialect) : Type 0 where
   quote : holds d.delimiter d.quote ≡ false
   escape : holds d.delimiter d.escape ≡ false
   comment : holds d.delimiter d.comment ≡ false
+  field : holds d.delimiter d.field ≡ false
   ascii : is_delimiter d.delimiter ≡ true
 
 and_left : (x y : Bool) → (x && y) ≡ true → x ≡ true
@@ -103,11 +103,11 @@ not_is true e = absurd (cc)
 not_is false e = refl
 
 -- the last of nine tests that hold together, and those before it
-last_five : (a b c x y z u v w : Bool) → (a && b && c && x && y && z && u && v && w) ≡ true → (y ≡ true) × (z ≡ true) × (w ≡ true)
+last_five : (a b c x y z u v w : Bool) → (a && b && c && x && y && z && u && v && w) ≡ true → (y ≡ true) × (z ≡ true) × (w ≡ true) × (x ≡ true)
 last_five a b c x y z u v w h =
     let eight = and_left (a && b && c && x && y && z && u && v) w h in
     let six = and_left (a && b && c && x && y && z) u (and_left (a && b && c && x && y && z && u) v eight) in
-    (and_right (a && b && c && x) y (and_left (a && b && c && x && y) z six), and_right (a && b && c && x && y) z six, and_right (a && b && c && x && y && z && u && v) w h)
+    (and_right (a && b && c && x) y (and_left (a && b && c && x && y) z six), and_right (a && b && c && x && y) z six, and_right (a && b && c && x && y && z && u && v) w h, and_right (a && b && c) x (and_left (a && b && c && x) y (and_left (a && b && c && x && y) z six)))
 
 parted : (d : Dialect) → is_valid d ≡ true → Parted d
 unfolding is_valid
@@ -121,8 +121,13 @@ parted d h =
       quote = not_is (holds d.delimiter d.quote) whole.0;
       escape = not_is (holds d.delimiter d.escape) whole.2;
       comment = not_is (holds d.delimiter d.comment) whole.1;
+      field = not_is (holds d.delimiter d.field) whole.3;
       ascii = and_right (is_character d.field && is_character d.quote && is_character d.escape && is_character d.comment) (is_delimiter d.delimiter) characters;
     }
+
+more_short : (delimiter : Delimiter) → length (more_of delimiter) ≤ 1
+more_short (One a) = omega arith
+more_short (Two a b) = omega arith
 
 pub delimits : (d : Dialect) → is_valid d ≡ true → Delimits d
 delimits d h = let p = parted d h in record {
@@ -132,5 +137,8 @@ delimits d h = let p = parted d h in record {
   quote = first_holds d.delimiter d.quote p.quote;
   escape = first_holds d.delimiter d.escape p.escape;
   comment = first_holds d.delimiter d.comment p.comment;
+  field = first_holds d.delimiter d.field p.field;
+  short = more_short d.delimiter;
+  named = refl;
   low = first_low d.delimiter p.ascii;
 }

@@ -4,3 +4,4 @@ pub mod Places
 pub mod Spelling
 pub mod Cuts
 pub mod Stopping
+pub mod Striding

@@ -103,20 +103,20 @@ comes_one d line s m i l c e =
 
 -- ---- in a quoted part
 
-neither_left : (x y : Bool) → (x || y) ≡ false → x ≡ false
-neither_left true y e = e
-neither_left false y e = refl
+pub none_or_left : (x y : Bool) → (x || y) ≡ false → x ≡ false
+none_or_left true y e = e
+none_or_left false y e = refl
 
-neither_right : (x y : Bool) → (x || y) ≡ false → y ≡ false
-neither_right true y e = absurd (cc)
-neither_right false y e = e
+pub none_or_right : (x y : Bool) → (x || y) ≡ false → y ≡ false
+none_or_right true y e = absurd (cc)
+none_or_right false y e = e
 
 clear_goes : (d : Dialect) (us rest : List ℕ) → NonePass (is_byte2 d.quote d.escape) us → Goes d Inside us rest Inside
 clear_goes d [] rest h = refl
 clear_goes d (c ∷ cs) rest h =
     goes_one d Inside Inside Inside c cs rest refl
-    (inside_single d c (special d (cs ++ rest)) (not_eq c d.quote (neither_left (c == d.quote) (c == d.escape) h.0))
-    (λ e. absurd (not_eq c d.escape (neither_right (c == d.quote) (c == d.escape) h.0) e))) (clear_goes d cs rest h.1)
+    (inside_single d c (special d (cs ++ rest)) (not_eq c d.quote (none_or_left (c == d.quote) (c == d.escape) h.0))
+    (λ e. absurd (not_eq c d.escape (none_or_right (c == d.quote) (c == d.escape) h.0) e))) (clear_goes d cs rest h.1)
 
 pub clear_comes : (d : Dialect) (line : List ℕ) (i n : ℕ) → IsNext (is_byte2 d.quote d.escape) line i n → Comes d line Inside i Inside n
 clear_comes d line i n x = comes_by d line Inside i Inside n x.low x.high (clear_goes d (slice_range line i n) (drop n line) x.clear)
@@ -129,42 +129,51 @@ both_right : (x y : Bool) → (x && y) ≡ true → y ≡ true
 both_right true y e = e
 both_right false y e = absurd (cc)
 
-special_more : (d : Dialect) (line : List ℕ) (i : ℕ) → special d (drop i line) ≡ true → i < length line
+pub special_more : (d : Dialect) (line : List ℕ) (i : ℕ) → special d (drop i line) ≡ true → i < length line
 special_more d line i h = ⊎_elim (λ l. l) (λ past. absurd (clash (sym h ∙ ap (special d) (drop_all i line past)))) (cases_lt i (length line))
+
+not_both : (x y : Bool) → (x && y) ≡ false → x ≡ true → y ≡ false
+not_both true y f t = f
+not_both false y f t = absurd (cc)
+
+-- the step over a quote or an escape that is no pair
+pub closing_step : (d : Dialect) (line : List ℕ) (i : ℕ) → (slice_index line i == d.escape && special d (drop (i + 1) line)) ≡ false
+    → slice_index line i ≡ d.quote → step d Inside (slice_index line i) (special d (drop (i + 1) line)) ≡ Tail
+closing_step d line i h q =
+    ap (λ c. step d Inside c (special d (drop (i + 1) line))) q
+    ∙ inside_closing d (special d (drop (i + 1) line)) (λ e. not_both (slice_index line i == d.escape) (special d (drop (i + 1) line)) h (ap (λ c. c == d.escape) (q ∙ e) ∙ eq_self d.escape))
+
+pub single_step : (d : Dialect) (line : List ℕ) (i : ℕ) → (slice_index line i == d.escape && special d (drop (i + 1) line)) ≡ false
+    → slice_index line i ≢ d.quote → step d Inside (slice_index line i) (special d (drop (i + 1) line)) ≡ Inside
+single_step d line i h q =
+    inside_single d (slice_index line i) (special d (drop (i + 1) line)) q
+    (λ e. not_both (slice_index line i == d.escape) (special d (drop (i + 1) line)) h (ap (λ c. c == d.escape) e ∙ eq_self d.escape))
+
+pub pair_step : (d : Dialect) (line : List ℕ) (i : ℕ) → (slice_index line i == d.escape && special d (drop (i + 1) line)) ≡ true
+    → step d Inside (slice_index line i) (special d (drop (i + 1) line)) ≡ Paired
+pair_step d line i h =
+    ap (λ c. step d Inside c (special d (drop (i + 1) line))) (eq_is (slice_index line i) d.escape (both_left (slice_index line i == d.escape) (special d (drop (i + 1) line)) h))
+    ∙ inside_escape d (special d (drop (i + 1) line)) (both_right (slice_index line i == d.escape) (special d (drop (i + 1) line)) h)
+
+pub pair_next : (d : Dialect) (line : List ℕ) (i : ℕ) → (slice_index line i == d.escape && special d (drop (i + 1) line)) ≡ true → i + 1 < length line
+pair_next d line i h = special_more d line (i + 1) (both_right (slice_index line i == d.escape) (special d (drop (i + 1) line)) h)
 
 pub pair_comes : (d : Dialect) (line : List ℕ) (i : ℕ) → i < length line → (slice_index line i == d.escape && special d (drop (i + 1) line)) ≡ true
     → Comes d line Inside i Inside (i + 2)
 pair_comes d line i l h =
-    let escape : slice_index line i ≡ d.escape = eq_is (slice_index line i) d.escape (both_left (slice_index line i == d.escape) (special d (drop (i + 1) line)) h) in
-    let x : special d (drop (i + 1) line) ≡ true = both_right (slice_index line i == d.escape) (special d (drop (i + 1) line)) h in
     let e : i + 1 + 1 ≡ i + 2 = omega arith in
     let P : ℕ → Type 0 = λ n. Comes d line Inside i Inside n in
     subst P e
-    (comes_on d line Inside Paired Inside i (i + 1) (i + 1 + 1)
-    (comes_one d line Inside Paired i l refl (ap (λ c. step d Inside c (special d (drop (i + 1) line))) escape ∙ inside_escape d (special d (drop (i + 1) line)) x))
-    (comes_one d line Paired Inside (i + 1) (special_more d line (i + 1) x) refl refl))
+    (comes_on d line Inside Paired Inside i (i + 1) (i + 1 + 1) (comes_one d line Inside Paired i l refl (pair_step d line i h))
+    (comes_one d line Paired Inside (i + 1) (pair_next d line i h) refl refl))
 
 pub closing_comes : (d : Dialect) (line : List ℕ) (i : ℕ) → i < length line → (slice_index line i == d.escape && special d (drop (i + 1) line)) ≡ false
     → slice_index line i ≡ d.quote → Comes d line Inside i Tail (i + 1)
-closing_comes d line i l h q =
-    comes_one d line Inside Tail i l refl
-    (ap (λ c. step d Inside c (special d (drop (i + 1) line))) q
-    ∙ inside_closing d (special d (drop (i + 1) line)) (λ e. not_both (slice_index line i == d.escape) (special d (drop (i + 1) line)) h (ap (λ c. c == d.escape) (q ∙ e) ∙ eq_self d.escape)))
-  where
-    not_both : (x y : Bool) → (x && y) ≡ false → x ≡ true → y ≡ false
-    not_both true y f t = f
-    not_both false y f t = absurd (cc)
+closing_comes d line i l h q = comes_one d line Inside Tail i l refl (closing_step d line i h q)
 
 pub single_comes : (d : Dialect) (line : List ℕ) (i : ℕ) → i < length line → (slice_index line i == d.escape && special d (drop (i + 1) line)) ≡ false
     → slice_index line i ≢ d.quote → Comes d line Inside i Inside (i + 1)
-single_comes d line i l h q =
-    comes_one d line Inside Inside i l refl
-    (inside_single d (slice_index line i) (special d (drop (i + 1) line)) q
-    (λ e. not_both (slice_index line i == d.escape) (special d (drop (i + 1) line)) h (ap (λ c. c == d.escape) e ∙ eq_self d.escape)))
-  where
-    not_both : (x y : Bool) → (x && y) ≡ false → x ≡ true → y ≡ false
-    not_both true y f t = f
-    not_both false y f t = absurd (cc)
+single_comes d line i l h q = comes_one d line Inside Inside i l refl (single_step d line i h q)
 
 -- at the line's end a quoted part ends too
 pub ended_comes : (d : Dialect) (line : List ℕ) (i n : ℕ) → length line ≤ n → Comes d line Inside i Inside n → Comes d line Inside i Tail n

@@ -126,7 +126,7 @@ state_comment d (c ∷ cs) = state_cons d Comment c cs ∙ state_comment d cs
 
 -- ---- where the delimiter stands
 
-are_same : (a b : List ℕ) → bytes_eq a b ≡ true → a ≡ b
+pub are_same : (a b : List ℕ) → bytes_eq a b ≡ true → a ≡ b
 are_same a b e = (bytes_eq-Decides a b).0 e
 
 same_test : (a b : List ℕ) → a ≡ b → bytes_eq a b ≡ true
@@ -140,10 +140,10 @@ take_none : (xs : List ℕ) → take 0 xs ≡ []
 take_none [] = refl
 take_none (x ∷ xs) = refl
 
-stands_delimited : (d : Dialect) (xs : List ℕ) → StandsAt (delimiter_of d) xs 0 → delimited d xs ≡ true
+pub stands_delimited : (d : Dialect) (xs : List ℕ) → StandsAt (delimiter_of d) xs 0 → delimited d xs ≡ true
 stands_delimited d xs h = same_test (take (length (delimiter_of d)) xs) (delimiter_of d) (ap (take (length (delimiter_of d))) (sym (drop_none xs)) ∙ h)
 
-delimited_stands : (d : Dialect) (xs : List ℕ) → delimited d xs ≡ true → StandsAt (delimiter_of d) xs 0
+pub delimited_stands : (d : Dialect) (xs : List ℕ) → delimited d xs ≡ true → StandsAt (delimiter_of d) xs 0
 delimited_stands d xs h = ap (take (length (delimiter_of d))) (drop_none xs) ∙ are_same (take (length (delimiter_of d)) xs) (delimiter_of d) h
 
 -- the byte where it stands
@@ -165,7 +165,7 @@ stands_special d p (x ∷ xs) h =
 
 -- ---- where the walk stops
 
-stop_nil : (d : Dialect) (s : State) → stop_from d s [] ≡ 0
+pub stop_nil : (d : Dialect) (s : State) → stop_from d s [] ≡ 0
 unfolding stop_from
 stop_nil d s = refl
 

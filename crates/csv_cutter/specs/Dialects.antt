@@ -28,6 +28,11 @@ abbrev pub delimiter_bytes : Delimiter → List ℕ
 delimiter_bytes (One a) = a ∷ []
 delimiter_bytes (Two a b) = a ∷ b ∷ []
 
+-- its first byte
+abbrev pub first_of : Delimiter → ℕ
+first_of (One a) = a
+first_of (Two a b) = a
+
 -- the dialect of a request's CSV input
 abbrev pub dialect_of : CsvInput → Dialect
 dialect_of csv = record { field = csv.field; quote = csv.quote; escape = csv.escape; comment = csv.comment; delimiter = csv.delimiter }

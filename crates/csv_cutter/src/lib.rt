@@ -4,6 +4,7 @@
 mod dialect;
 mod fields;
 mod laws;
+mod stride;
 mod walk;
 
 pub use crate::dialect::Dialect;

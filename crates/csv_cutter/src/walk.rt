@@ -21,7 +21,7 @@ pub(crate) enum State {
 
 /// The first place of a byte from `from` on, or the line's end.
 #[inline]
-fn next_byte(byte: u8, line: &[u8], from: usize) -> usize
+pub(crate) fn next_byte(byte: u8, line: &[u8], from: usize) -> usize
     requires { from ≤ length line.now }
     ensures { IsNext (is_byte byte) line.now from result }
 {
@@ -34,7 +34,7 @@ fn next_byte(byte: u8, line: &[u8], from: usize) -> usize
 
 /// The first place of one of two bytes from `from` on, or the line's end.
 #[inline]
-fn next_either(one: u8, other: u8, line: &[u8], from: usize) -> usize
+pub(crate) fn next_either(one: u8, other: u8, line: &[u8], from: usize) -> usize
     requires { from ≤ length line.now }
     ensures { IsNext (is_byte2 one other) line.now from result }
 {
@@ -47,7 +47,7 @@ fn next_either(one: u8, other: u8, line: &[u8], from: usize) -> usize
 
 /// Whether an escape stands at a place, and behind it a quote or an escape.
 #[inline]
-fn is_pair(dialect: &Dialect, line: &[u8], at: usize) -> bool
+pub(crate) fn is_pair(dialect: &Dialect, line: &[u8], at: usize) -> bool
     requires { at < length line.now }
     ensures { result ≡ (slice_index line.now at == dialect.now.escape && special dialect.now (drop (at + 1) line.now)) }
 {
