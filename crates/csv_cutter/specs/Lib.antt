@@ -4,3 +4,5 @@ pub mod Reading
 pub mod Records
 pub mod Stops
 pub mod Walk
+pub mod Cutter
+pub mod Looks

@@ -4,6 +4,8 @@
 mod dialect;
 mod fields;
 mod laws;
+mod looks;
+mod records;
 mod stride;
 mod walk;
 

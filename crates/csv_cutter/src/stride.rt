@@ -14,9 +14,9 @@ use select_request::Delimiter;
 /// How far a walk came: its state, its place, and whether it stopped there before the delimiter that ends the record.
 #[derive(Clone, Copy)]
 pub(crate) struct Stretch {
-    state: State,
-    at: usize,
-    stopped: bool,
+    pub(crate) state: State,
+    pub(crate) at: usize,
+    pub(crate) stopped: bool,
 }
 
 // Whether the byte at a place can be told.
@@ -161,7 +161,7 @@ pub(crate) fn walk(dialect: &Dialect, bytes: &[u8], from: usize, state: State, l
 {
     let mut at = from;
     let mut state = state;
-    while is_told(bytes, at, last) {
+    'strides: while is_told(bytes, at, last) {
         let next = stride(dialect, bytes, at, state, last);
         if next.stopped {
             return next;
