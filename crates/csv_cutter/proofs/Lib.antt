@@ -5,3 +5,5 @@ pub mod Spelling
 pub mod Cuts
 pub mod Stopping
 pub mod Striding
+pub mod Looking
+pub mod Moving

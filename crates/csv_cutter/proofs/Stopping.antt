@@ -129,7 +129,7 @@ state_comment d (c ∷ cs) = state_cons d Comment c cs ∙ state_comment d cs
 pub are_same : (a b : List ℕ) → bytes_eq a b ≡ true → a ≡ b
 are_same a b e = (bytes_eq-Decides a b).0 e
 
-same_test : (a b : List ℕ) → a ≡ b → bytes_eq a b ≡ true
+pub same_test : (a b : List ℕ) → a ≡ b → bytes_eq a b ≡ true
 same_test a b e = (bytes_eq-Decides a b).1 e
 
 drop_none : (xs : List ℕ) → drop 0 xs ≡ xs
@@ -205,7 +205,7 @@ and_left : (x y : Bool) → (x && y) ≡ true → x ≡ true
 and_left true y e = refl
 and_left false y e = absurd (cc)
 
-and_right : (x y : Bool) → (x && y) ≡ true → y ≡ true
+pub and_right : (x y : Bool) → (x && y) ≡ true → y ≡ true
 and_right true y e = e
 and_right false y e = absurd (cc)
 
@@ -360,14 +360,14 @@ marked d q p bytes = by_place (p == 0) refl (bytes_eq (take 3 bytes) (0xef ∷ 0
 
 -- ---- the record at a place
 
-body_is : (d : Dialect) (p : ℕ) (bytes : List ℕ) → body_len d p bytes ≡ mark_len p bytes + content_len d (drop (mark_len p bytes) bytes)
+pub body_is : (d : Dialect) (p : ℕ) (bytes : List ℕ) → body_len d p bytes ≡ mark_len p bytes + content_len d (drop (mark_len p bytes) bytes)
 unfolding body_len
 body_is d p bytes = refl
 
-width_some : (d : Dialect) → Delimits d → 0 < length (delimiter_of d)
+pub width_some : (d : Dialect) → Delimits d → 0 < length (delimiter_of d)
 width_some d q = omega (arith, ap length q.is)
 
-stands_short : (d : Dialect) (xs : List ℕ) (k : ℕ) → 0 < length (delimiter_of d) → StandsAt (delimiter_of d) xs k → k + length (delimiter_of d) ≤ length xs
+pub stands_short : (d : Dialect) (xs : List ℕ) (k : ℕ) → 0 < length (delimiter_of d) → StandsAt (delimiter_of d) xs k → k + length (delimiter_of d) ≤ length xs
 stands_short d xs k some h =
     omega (arith, ap length h, length-take (length (delimiter_of d)) (drop k xs), length-drop k xs)
 

@@ -41,7 +41,7 @@ told_special d bytes more false at h none = by_rest (drop (at + 1) bytes) (omega
     by_rest [] l = absurd (omega arith)
     by_rest (x ∷ xs) l = refl
 
-front_take : (n : ℕ) (xs more : List ℕ) → n ≤ length xs → take n (xs ++ more) ≡ take n xs
+pub front_take : (n : ℕ) (xs more : List ℕ) → n ≤ length xs → take n (xs ++ more) ≡ take n xs
 front_take zero [] more h = take_zero more
   where
     take_zero : (ys : List ℕ) → take 0 ys ≡ []

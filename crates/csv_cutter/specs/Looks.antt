@@ -1,5 +1,5 @@
 -- What looking at the bytes ahead of a window tells of the record at its place.
-use Rattle.std.specs.Prelude.{◌≡◌, ℕ, ◌+◌, ◌-◌, ◌<◌, ◌≤◌, max, min, Bool, true, List, length, drop, Option, None, Some, Result, Ok, Err}
+use Rattle.std.specs.Prelude.{◌≡◌, ℕ, ◌+◌, ◌-◌, ◌<◌, ◌≤◌, max, min, Bool, true, List, [], length, drop, Option, None, Some, Result, Ok, Err}
 use Rattle.select_ports.specs.declared.outcome.Failed.{Failed}
 use Rattle.select_ports.specs.Stored.{Opened}
 use Rattle.line_window.specs.Sliding.{View, ahead, Tells, Holds, IsSound, SameRules, Took}
@@ -21,7 +21,7 @@ pub record Moves (opened : Opened) (old new : View) (before now : ℕ) : Type 0 
   pub forward : old.upto ≤ new.upto
   pub onwards : old.place ≤ new.place
   pub taken : Took (new.upto - old.upto) before now
-  pub near : new.upto ≤ max old.upto (new.place + old.longest + 65540)
+  pub near : new.upto ≤ max old.upto (new.place + old.longest + 65541)
   pub told : (object : List ℕ) → Tells opened object → Holds object old → Holds object new
 
 -- reading on while the window stays at its place
@@ -61,18 +61,33 @@ pub record IsOpening (d : Dialect) (v : View) (o : Opening) : Type 0 where
   pub few : o.mark ≤ 3
   pub told : (object : List ℕ) → Holds object v → (o.mark ≡ mark_len v.place (drop v.place object)) × (o.state ≡ first_state d (drop (v.place + o.mark) object))
 
+-- the same of plain bytes at a place
+abbrev pub OpensAt : Dialect → ℕ → List ℕ → Option Opening → Type 0
+OpensAt d place bytes None = bytes ≡ []
+OpensAt d place bytes (Some o) = (0 < length bytes) × (o.mark ≡ mark_len place bytes) × (o.state ≡ first_state d (drop o.mark bytes))
+
 abbrev pub Opens : Dialect → View → Result (Option Opening) Failed → Type 0
 Opens d v (Ok (Some o)) = IsOpening d v o
 Opens d v (Ok None) = v.place ≡ v.size
 Opens d v (Err failed) = Unit {0}
 
--- the record at the window's place was found: its body and the delimiter lie ahead, or its body is longer than the limit
-abbrev pub IsFound : Dialect → View → Found → Type 0
-IsFound d v Past = v.place ≡ v.size
-IsFound d v (Record len behind) =
-    (v.place < v.size) × (len + behind ≤ length (ahead v)) × (len ≤ v.longest)
-    × ((object : List ℕ) → Holds object v → (len ≡ body_len d v.place (drop v.place object))
-    × (len + behind ≡ min (len + length (delimiter_of d)) (length object - v.place)))
-IsFound d v (Long state n) =
-    (v.place < v.size) × (n ≤ length (ahead v)) × (v.longest < n)
-    × ((object : List ℕ) → Holds object v → n + stop_from d state (drop (v.place + n) object) ≡ body_len d v.place (drop v.place object))
+-- on the way to the end of the record at the window's place: the walk came to a place in some state
+pub record IsEnding (opened : Opened) (d : Dialect) (old v : View) (at : ℕ) (s : State) : Type 0 where
+  pub some : v.place < v.size
+  pub shown : at ≤ length (ahead v)
+  pub told : (object : List ℕ) → Tells opened object → Holds object old
+      → body_len d old.place (drop old.place object) ≡ at + stop_from d s (drop (old.place + at) object)
+
+-- the record at the window's place: its body and the delimiter lie ahead
+pub record IsWhole (opened : Opened) (d : Dialect) (old v : View) (len behind : ℕ) : Type 0 where
+  pub some : v.place < v.size
+  pub shown : len + behind ≤ length (ahead v)
+  pub short : len ≤ v.longest
+  pub told : (object : List ℕ) → Tells opened object → Holds object old → (len ≡ body_len d old.place (drop old.place object))
+      × (len + behind ≡ min (len + length (delimiter_of d)) (length object - old.place))
+
+-- the record at the window's place was found: it lies ahead, or its body is longer than the limit, or the object ends there
+abbrev pub IsFound : Opened → Dialect → View → View → Found → Type 0
+IsFound opened d old v Past = v.place ≡ v.size
+IsFound opened d old v (Record len behind) = IsWhole opened d old v len behind
+IsFound opened d old v (Long state n) = IsEnding opened d old v n state × (v.longest < n)

@@ -6,7 +6,7 @@ ghost use Rattle.line_window.specs.Sliding.{ahead, IsSound};
 ghost use Rattle.csv_cutter.specs.Dialects.{is_valid, delimiter_bytes};
 ghost use Rattle.csv_cutter.specs.Records.{delimiter_of};
 ghost use Rattle.csv_cutter.specs.Stops.{mark_len, StopsAt};
-ghost use Rattle.csv_cutter.specs.Looks.{Moves, Stays, IsLook, LooksAt, Opens, IsFound};
+ghost use Rattle.csv_cutter.specs.Looks.{Moves, Stays, IsLook, LooksAt, Opens, OpensAt, IsOpening, IsFound};
 
 use crate::Dialect;
 use crate::stride::walk;
@@ -70,7 +70,7 @@ pub(crate) fn look_ahead<S: Store>(
     requires object { IsOpen (S.current store.old) window.old.size }
     requires sound { IsSound window.old }
     requires within { from ≤ length (ahead window.old) }
-    requires room { from ≤ window.old.longest }
+    requires room { from ≤ window.old.longest + 3 }
     ensures window { Stays (S.current store.old) window.old window.new (S.taken store.old) (S.taken store.new) }
     ensures failed { window.new.failed ≡ is_err result }
     ensures look { IfOk result (IsLook dialect.now window.new from state) }
@@ -116,5 +116,119 @@ fn look_at(dialect: &Dialect, bytes: &[u8], from: usize, state: State, last: boo
         state,
         at,
         end: Ahead::More,
+    }
+}
+
+// Reads the first bytes of the record at the window's place, unless the object ends there.
+fn open_record<S: Store>(dialect: &Dialect, window: &mut Window, store: &mut S) -> Result<Option<Opening>, Failed>
+    requires object { IsOpen (S.current store.old) window.old.size }
+    requires sound { IsSound window.old }
+    ensures window { Stays (S.current store.old) window.old window.new (S.taken store.old) (S.taken store.new) }
+    ensures failed { window.new.failed ≡ is_err result }
+    ensures opens { Opens dialect.now window.new result }
+    ensures stays_failed { window.old.failed ≡ true → IsErr result }
+    ensures cause { OnErr result (window.old.failed ≡ false → Rose (S.faults store.old) (S.faults store.new)) }
+    ensures faults { S.faults store.old ≤ S.faults store.new }
+    ensures held { S.held store.new ≡ S.held store.old }
+    ensures current { S.current store.new ≡ S.current store.old }
+    ensures absent { S.absent store.new ≡ S.absent store.old }
+{
+    let place = window.place();
+    match window.ahead(store, 4) {
+        Ok(bytes) => Ok(opening_of(dialect, bytes, place)),
+        Err(failed) => Err(failed),
+    }
+}
+
+// The first bytes of a record, of at least four, or of all up to the object's end.
+fn opening_of(dialect: &Dialect, bytes: &[u8], place: u64) -> Option<Opening>
+    ensures { OpensAt dialect.now place bytes.now result }
+{
+    if bytes.is_empty() {
+        return None;
+    }
+    let mark = mark_len(bytes, place);
+    let state = match bytes.get(mark) {
+        Some(first) if *first == dialect.comment => State::Comment,
+        _ => State::Start,
+    };
+    Some(Opening { mark, state })
+}
+
+fn mark_len(bytes: &[u8], place: u64) -> usize
+    ensures { result ≡ mark_len place bytes.now }
+{
+    if place == 0 && bytes.starts_with(&MARK) {
+        MARK.len()
+    } else {
+        0
+    }
+}
+
+// Finds the end of the record at the window's place, or as much of it as is longer than the record limit.
+pub(crate) fn find_record<S: Store>(
+    dialect: &Dialect,
+    window: &mut Window,
+    store: &mut S,
+    longest: usize,
+) -> Result<Found, Failed>
+    requires valid { is_valid dialect.now ≡ true }
+    requires object { IsOpen (S.current store.old) window.old.size }
+    requires sound { IsSound window.old }
+    requires limit { longest ≡ window.old.longest }
+    ensures window { Stays (S.current store.old) window.old window.new (S.taken store.old) (S.taken store.new) }
+    ensures failed { window.new.failed ≡ is_err result }
+    ensures found { IfOk result (IsFound (S.current store.old) dialect.now window.old window.new) }
+    ensures stays_failed { window.old.failed ≡ true → IsErr result }
+    ensures cause { OnErr result (window.old.failed ≡ false → Rose (S.faults store.old) (S.faults store.new)) }
+    ensures faults { S.faults store.old ≤ S.faults store.new }
+    ensures held { S.held store.new ≡ S.held store.old }
+    ensures current { S.current store.new ≡ S.current store.old }
+    ensures absent { S.absent store.new ≡ S.absent store.old }
+{
+    match open_record(dialect, window, store) {
+        Ok(Some(opening)) => end_record(dialect, window, store, longest, opening),
+        Ok(None) => Ok(Found::Past),
+        Err(failed) => Err(failed),
+    }
+}
+
+// Finds the end of the record whose first bytes were read.
+fn end_record<S: Store>(
+    dialect: &Dialect,
+    window: &mut Window,
+    store: &mut S,
+    longest: usize,
+    opening: Opening,
+) -> Result<Found, Failed>
+    requires valid { is_valid dialect.now ≡ true }
+    requires object { IsOpen (S.current store.old) window.old.size }
+    requires sound { IsSound window.old }
+    requires works { window.old.failed ≡ false }
+    requires limit { longest ≡ window.old.longest }
+    requires opening { IsOpening dialect.now window.old opening }
+    ensures window { Stays (S.current store.old) window.old window.new (S.taken store.old) (S.taken store.new) }
+    ensures failed { window.new.failed ≡ is_err result }
+    ensures found { IfOk result (IsFound (S.current store.old) dialect.now window.old window.new) }
+    ensures cause { OnErr result (Rose (S.faults store.old) (S.faults store.new)) }
+    ensures faults { S.faults store.old ≤ S.faults store.new }
+    ensures held { S.held store.new ≡ S.held store.old }
+    ensures current { S.current store.new ≡ S.current store.old }
+    ensures absent { S.absent store.new ≡ S.absent store.old }
+{
+    let mut at = opening.mark;
+    let mut state = opening.state;
+    'looks: loop {
+        let look = look_ahead(dialect, window, store, state, at)?;
+        at = look.at;
+        state = look.state;
+        if at > longest {
+            return Ok(Found::Long(state, at));
+        }
+        match look.end {
+            Ahead::Delimiter => return Ok(Found::Record(at, width(dialect.delimiter))),
+            Ahead::ObjectEnd => return Ok(Found::Record(at, 0)),
+            Ahead::More => {}
+        }
     }
 }
