@@ -7,3 +7,4 @@ pub mod Stopping
 pub mod Striding
 pub mod Looking
 pub mod Moving
+pub mod Loans

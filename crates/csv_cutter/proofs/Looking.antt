@@ -127,3 +127,6 @@ opens_is d v bytes place (Some o) s a e h =
             h.2 ∙ state_front d o.mark bytes more (omega (arith, mark, few.0)) cases ∙ ap (first_state d) (rest_is v object bytes o.mark (omega (arith, mark, few.1)) (a.told object holds)),
           );
     }
+
+pub at_err : {A E : Type 0} (P : A → Type 0) (Q : E → Type 0) (r : Result A E) (e : E) → r ≡ Err e → MatchResult r P Q → Q e
+at_err {A = A} {E = E} P Q r e is h = let M : Result A E → Type 0 = λ x. MatchResult x P Q in subst M is h

@@ -4,6 +4,7 @@
 mod dialect;
 mod fields;
 mod laws;
+mod lending;
 mod looks;
 mod records;
 mod stride;
@@ -12,3 +13,4 @@ mod walk;
 pub use crate::dialect::Dialect;
 pub use crate::fields::{CsvFault, Fields, Spans};
 pub use crate::laws::{line_has_one_reading, object_has_one_cutting};
+pub use crate::records::QuotedRecords;

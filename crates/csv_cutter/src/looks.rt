@@ -16,7 +16,7 @@ use select_ports::{Failed, Store};
 use select_request::Delimiter as RecordDelimiter;
 
 /// The UTF-8 byte order mark.
-const MARK: [u8; 3] = [0xef, 0xbb, 0xbf];
+pub(crate) const MARK: [u8; 3] = [0xef, 0xbb, 0xbf];
 
 // How a look at the bytes ahead ends.
 #[derive(Clone, Copy)]
