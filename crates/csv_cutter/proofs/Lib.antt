@@ -8,3 +8,4 @@ pub mod Striding
 pub mod Looking
 pub mod Moving
 pub mod Loans
+pub mod Taking

@@ -41,6 +41,7 @@ pub lent_ok : (opened : Opened) (cutter later : QuotedRecords) (old new : View) 
 lent_ok opened cutter later old new len behind start bytes content line before now sound ready shown short looks lent d l p shows same = record {
   stays = looks_stays opened old new (len + behind) before now looks (omega (arith, short));
   ready = record {
+    sound = looks.sound;
     limit = l ∙ ready.limit ∙ sym looks.rules.longest;
     shown = omega (arith, ap pending_len p, shown, more_ahead opened old new (len + behind) before now sound looks);
   };
@@ -60,6 +61,7 @@ pub lent_err : (opened : Opened) (cutter : QuotedRecords) (old new : View) (len 
 lent_err opened cutter old new len behind failed before now sound ready none short looks fails = record {
   stays = looks_stays opened old new (len + behind) before now looks (omega (arith, short));
   ready = record {
+    sound = looks.sound;
     limit = ready.limit ∙ sym looks.rules.longest;
     shown = omega (arith, ap pending_len none);
   };

@@ -10,6 +10,9 @@ use Rattle.csv_cutter.specs.declared.walk.State.{State}
 use Rattle.csv_cutter.specs.declared.looks.Look.{Look}
 use Rattle.csv_cutter.specs.declared.looks.Ahead.TheVariants.{Delimiter, ObjectEnd, More}
 use Rattle.csv_cutter.specs.declared.looks.Opening.{Opening}
+use Rattle.select_request.specs.declared.request.Delimiter.{Delimiter as RecordDelimiter}
+use Rattle.select_request.specs.declared.request.Delimiter.TheVariants.{One, Two}
+use Rattle.csv_cutter.specs.Dialects.{delimiter_bytes}
 use Rattle.csv_cutter.specs.Records.{delimiter_of}
 use Rattle.csv_cutter.specs.Stops.{stop_from, first_state, mark_len, body_len}
 use Rattle.csv_cutter.specs.Looks.{Moves, Stays, IsLook, Ends, IsOpening, IsEnding, IsWhole, IsFound}
@@ -85,6 +88,10 @@ ending_on opened d old v w from s look before between now a b e l = record {
       );
 }
 
+width_few : (delimiter : RecordDelimiter) → length (delimiter_bytes delimiter) ≤ 2
+width_few (One a) = omega arith
+width_few (Two a b) = omega arith
+
 pub ended_delimiter : (opened : Opened) (d : Dialect) (old v w : View) (from : ℕ) (s : State) (look : Look) (before between now : ℕ) → Stays opened old v before between → Stays opened v w between now
     → IsEnding opened d old v from s → IsLook d w from s look → look.at ≤ w.longest → Ends d w from look.state look.at Delimiter
     → IsWhole opened d old w look.at (length (delimiter_of d))
@@ -94,6 +101,7 @@ ended_delimiter opened d old v w from s look before between now a b e l short en
       some = later.some;
       shown = ends.0;
       short = short;
+      few = width_few d.delimiter;
       told = λ object t holds.
           let place : w.place ≡ old.place = b.place ∙ a.place in
           let here = b.moves.told object t (a.moves.told object t holds) in
@@ -112,6 +120,7 @@ ended_object opened d old v w from s look before between now a b e l short ends 
       some = later.some;
       shown = omega (arith, l.high);
       short = short;
+      few = omega arith;
       told = λ object t holds.
           let place : w.place ≡ old.place = b.place ∙ a.place in
           let here = b.moves.told object t (a.moves.told object t holds) in

@@ -5,7 +5,7 @@ use Rattle.select_ports.specs.Stored.{Opened}
 use Rattle.line_window.specs.declared.line.Line.{Line}
 use Rattle.line_window.specs.declared.line.Line.TheVariants.{At, TooLong, End}
 use Rattle.line_window.specs.Cuts.{Cut}
-use Rattle.line_window.specs.Sliding.{View, ahead, Tells, Holds}
+use Rattle.line_window.specs.Sliding.{View, ahead, Tells, Holds, IsSound}
 use Rattle.line_window.specs.Answers.{IsNext}
 use Rattle.csv_cutter.specs.declared.dialect.Dialect.{Dialect}
 use Rattle.csv_cutter.specs.declared.records.Pending.{Pending}
@@ -35,6 +35,7 @@ Left cutter object window cuts = AreRecords cutter.dialect object (next_start cu
 
 -- the window is the one that the cutter works on: it has the same record limit, and shows the bytes of the answered record
 pub record IsReady (cutter : QuotedRecords) (window : View) : Type 0 where
+  pub sound : IsSound window
   pub limit : cutter.longest ≡ window.longest
   pub shown : pending_len cutter.pending ≤ length (ahead window)
 
