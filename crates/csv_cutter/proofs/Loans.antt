@@ -11,7 +11,7 @@ use Rattle.csv_cutter.specs.declared.records.Pending.TheVariants.{Nothing, Passe
 use Rattle.csv_cutter.specs.declared.records.QuotedRecords.{QuotedRecords}
 use Rattle.csv_cutter.specs.Records.{content_at}
 use Rattle.csv_cutter.specs.Looks.{Moves, Stays}
-use Rattle.csv_cutter.specs.Cutter.{pending_len, IsReady, LendsLine, LendsRecord}
+use Rattle.csv_cutter.specs.Cutter.{pending_len, IsReady, LendsLine, LendsRecord, StandsThere}
 use Rattle.csv_cutter.proofs.Characters.{clash}
 use Rattle.csv_cutter.proofs.Moving.{ahead_len}
 
@@ -36,9 +36,9 @@ pub lent_ok : (opened : Opened) (cutter later : QuotedRecords) (old new : View) 
     → IsSound old → IsReady cutter old → len + behind ≤ length (ahead old) → len + behind ≤ old.longest + 2 → Looks opened old new (len + behind) before now → IsAhead new (len + behind) bytes
     → later.dialect ≡ cutter.dialect → later.longest ≡ cutter.longest → later.pending ≡ Passed (len + behind)
     → ((object : List ℕ) → content ≡ content_at start (take len (drop new.place object)) → LendsLine new len behind (Ok line) object)
-    → content ≡ content_at start (take len bytes)
+    → content ≡ content_at start (take len bytes) → StandsThere new (Ok line)
     → LendsRecord opened cutter later old new len behind (Ok line) before now
-lent_ok opened cutter later old new len behind start bytes content line before now sound ready shown short looks lent d l p shows same = record {
+lent_ok opened cutter later old new len behind start bytes content line before now sound ready shown short looks lent d l p shows same stands = record {
   stays = looks_stays opened old new (len + behind) before now looks (omega (arith, short));
   ready = record {
     sound = looks.sound;
@@ -47,6 +47,7 @@ lent_ok opened cutter later old new len behind start bytes content line before n
   };
   dialect = d;
   failed = lent.works;
+  place = stands;
   passed = λ _. p;
   unpassed = λ e. absurd (clash (sym e));
   told = λ object t h.
@@ -67,6 +68,7 @@ lent_err opened cutter old new len behind failed before now sound ready none sho
   };
   dialect = refl;
   failed = fails;
+  place = tt;
   passed = λ e. absurd (clash (sym e));
   unpassed = λ _. none;
   told = λ object t h. tt;

@@ -40,6 +40,7 @@ stop_zero d p bytes more s at h = by_rest (drop at bytes) (omega (arith, length-
     test : delimited d (drop at bytes ++ more) ≡ true
     test = same_test (take (length (delimiter_of d)) (drop at bytes ++ more)) (delimiter_of d)
         (front_take (length (delimiter_of d)) (drop at bytes) more (omega (arith, stands_short d bytes at (width_some d p) h.here, length-drop at bytes)) ∙ h.here)
+
     by_rest : (rest : List ℕ) → 0 < length rest → delimited d (rest ++ more) ≡ true → stop_from d s (rest ++ more) ≡ 0
     by_rest [] l e = absurd (omega arith)
     by_rest (c ∷ cs) l e = stop_here d s c (cs ++ more) (ap (λ b. b && delimited d (c ∷ (cs ++ more))) h.ends ∙ e)
@@ -103,6 +104,7 @@ mark_few p bytes = by_test (p == 0 && bytes_eq (take 3 bytes) (0xef ∷ 0xbb ∷
   where
     test : {b : Bool} → (p == 0 && bytes_eq (take 3 bytes) (0xef ∷ 0xbb ∷ 0xbf ∷ [])) ≡ b → mark_len p bytes ≡ cond b 3 0
     test e = let len : Bool → ℕ = λ b. cond b 3 0 in ap len e
+
     by_test : (b : Bool) → (p == 0 && bytes_eq (take 3 bytes) (0xef ∷ 0xbb ∷ 0xbf ∷ [])) ≡ b → (mark_len p bytes ≤ 3) × (mark_len p bytes ≤ length bytes)
     by_test false e = (omega (arith, test e), omega (arith, test e))
     by_test true e =
@@ -121,8 +123,7 @@ opens_is d v bytes place (Some o) s a e h =
       told = λ object holds.
           let more : List ℕ = drop (length bytes) (drop v.place object) in
           let cases = more_or_none v object bytes holds a in
-          let whole : bytes ++ more ≡ drop v.place object = ap (λ l. l ++ more) (a.told object holds) ∙ take-append-drop (length bytes) (drop v.place object) in
-          (
+          let whole : bytes ++ more ≡ drop v.place object = ap (λ l. l ++ more) (a.told object holds) ∙ take-append-drop (length bytes) (drop v.place object) in (
             mark ∙ mark_front v.place bytes more cases ∙ ap (mark_len v.place) whole,
             h.2 ∙ state_front d o.mark bytes more (omega (arith, mark, few.0)) cases ∙ ap (first_state d) (rest_is v object bytes o.mark (omega (arith, mark, few.1)) (a.told object holds)),
           );

@@ -104,8 +104,7 @@ ended_delimiter opened d old v w from s look before between now a b e l short en
       few = width_few d.delimiter;
       told = λ object t holds.
           let place : w.place ≡ old.place = b.place ∙ a.place in
-          let here = b.moves.told object t (a.moves.told object t holds) in
-          (
+          let here = b.moves.told object t (a.moves.told object t holds) in (
             omega (arith, later.told object t holds, ends.1 object here, ap (λ p. stop_from d look.state (drop (p + look.at) object)) place),
             omega (arith, ends.0, ahead_len w b.moves.sound, b.moves.sound.read, here.size, place),
           );
@@ -124,8 +123,7 @@ ended_object opened d old v w from s look before between now a b e l short ends 
       told = λ object t holds.
           let place : w.place ≡ old.place = b.place ∙ a.place in
           let here = b.moves.told object t (a.moves.told object t holds) in
-          let none : drop (old.place + look.at) object ≡ [] = drop_all (old.place + look.at) object (omega (arith, here.size, ends, place)) in
-          (
+          let none : drop (old.place + look.at) object ≡ [] = drop_all (old.place + look.at) object (omega (arith, here.size, ends, place)) in (
             omega (arith, later.told object t holds, ap (stop_from d look.state) none, stop_nil d look.state),
             omega (arith, here.size, ends, place),
           );

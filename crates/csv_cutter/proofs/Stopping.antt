@@ -268,8 +268,7 @@ walk_ends d a p content j h = by_comment (begins_with d.comment content) refl
       λ _. inl (front_comment d p content j h ∙ e),
     )
     by_comment false e =
-        let same : may_end (state_after d (first_state d content) (take j content)) ≡ may_end (state_after d Start (take j content)) = ap (λ b. may_end (state_after d (cond b Comment Start) (take j content))) e in
-        (
+        let same : may_end (state_after d (first_state d content) (take j content)) ≡ may_end (state_after d Start (take j content)) = ap (λ b. may_end (state_after d (cond b Comment Start) (take j content))) e in (
           (λ m. same ∙ ⊎_elim (λ c. absurd (clash (sym c ∙ (front_comment d p content j h ∙ e)))) (λ c. outside_ends (state_after d Start (take j content)) ((closed_by_walk d a (take j content)).0 c)) m),
           λ m. inr ((closed_by_walk d a (take j content)).1 (ends_outside (state_after d Start (take j content)) (state_fields d Start (take j content) start_fields) (sym same ∙ m))),
         )
@@ -331,6 +330,7 @@ marked_front d q p bytes front e = by_bytes bytes e
         not_before rest (suc zero) h = let x = (stands_first d q (a ∷ b ∷ c ∷ rest) 1 h).1 in let y : b ≡ 0xbb = cc in absurd (omega (arith, q.low))
         not_before rest (suc (suc zero)) h = let x = (stands_first d q (a ∷ b ∷ c ∷ rest) 2 h).1 in let y : c ≡ 0xbf = cc in absurd (omega (arith, q.low))
         not_before rest (suc (suc (suc k))) h = omega arith
+
         content_of : (rest : List ℕ) (k : ℕ) → 3 ≤ k → content_at p (take k (a ∷ b ∷ c ∷ rest)) ≡ take (k - 3) rest
         content_of rest zero l = absurd (omega arith)
         content_of rest (suc zero) l = absurd (omega arith)
@@ -347,6 +347,7 @@ marked d q p bytes = by_place (p == 0) refl (bytes_eq (take 3 bytes) (0xef ∷ 0
   where
     along : (n m : ℕ) → n ≡ m → Marked d p bytes m → Marked d p bytes n
     along n m e h = let P : ℕ → Type 0 = Marked d p bytes in subst P (sym e) h
+
     by_place : (x : Bool) → (p == 0) ≡ x → (y : Bool) → bytes_eq (take 3 bytes) (0xef ∷ 0xbb ∷ 0xbf ∷ []) ≡ y → Marked d p bytes (mark_len p bytes)
     by_place false e y f =
         along (mark_len p bytes) 0 (ap (λ t. cond (t && bytes_eq (take 3 bytes) (0xef ∷ 0xbb ∷ 0xbf ∷ [])) 3 0) e)
@@ -422,6 +423,7 @@ record_there d a q object p some = record {
   where
     bytes : List ℕ
     bytes = drop p object
+
     len : ℕ
     len = body_len d p bytes
 

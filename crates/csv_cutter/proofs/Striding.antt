@@ -221,6 +221,7 @@ start_stop d c cs h = by_stop (delimited d (c ∷ cs)) refl
     same_step : (b : Bool) → (c == d.field) ≡ b → step d Start c (special d cs) ≡ step d Tail c (special d cs)
     same_step true e = ap (λ b. cond b Start (cond (c == d.quote) Inside Tail)) e ∙ sym (ap (λ b. cond b Start Tail) e)
     same_step false e = start_plain d c (special d cs) e (eq_not c d.quote h) ∙ sym (tail_stays d c (special d cs) e)
+
     by_stop : (b : Bool) → delimited d (c ∷ cs) ≡ b → stop_from d Start (c ∷ cs) ≡ stop_from d Tail (c ∷ cs)
     by_stop true e = stop_here d Start c cs e ∙ sym (stop_here d Tail c cs e)
     by_stop false e = stop_onwards d Start c cs e ∙ ap (λ t. suc (stop_from d t cs)) (same_step (c == d.field) refl) ∙ sym (stop_onwards d Tail c cs e)

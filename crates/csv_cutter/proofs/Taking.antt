@@ -1,12 +1,14 @@
 -- The answers of a cutter are the next of the records that are left.
-use Rattle.std.proofs.Common.{◌≡◌, ℕ, zero, suc, ◌+◌, ◌-◌, ◌≤◌, ◌<◌, Bool, true, false, cond, ◌==◌, List, [], ◌∷◌, take, drop, length, refl, sym, ◌∙◌, ap, subst, arith, length-drop, max, min, Result, Ok, Err, IfOk, is_err, ⊎_elim}
+use Rattle.std.proofs.Common.{◌≡◌, ℕ, zero, suc, ◌+◌, ◌-◌, ◌≤◌, ◌<◌, Bool, true, false, cond, ◌==◌, List, [], ◌∷◌, take, drop, length, refl, sym, ◌∙◌, ap, subst, arith, length-drop, max, min, Result, Ok, Err, IfOk, IsOk, IsErr, OnErr, is_err, ⊎_elim}
 use Rattle.std.proofs.lemmas.Bool.{cases_lt}
 use Rattle.std.proofs.lemmas.List.{length-take, drop_all}
 use Rattle.select_ports.specs.declared.outcome.Failed.{Failed}
+use Rattle.select_ports.specs.Causes.{Rose}
 use Rattle.select_ports.specs.Stored.{Opened}
 use Rattle.line_window.specs.Cuts.{Cut}
 use Rattle.line_window.specs.Sliding.{View, ahead, Tells, Holds, IsSound}
 use Rattle.line_window.specs.Ahead.{Passes}
+use Rattle.line_window.specs.Answers.{IsNextCut}
 use Rattle.csv_cutter.specs.declared.dialect.Dialect.{Dialect}
 use Rattle.csv_cutter.specs.declared.walk.State.{State}
 use Rattle.csv_cutter.specs.declared.looks.Look.{Look}
@@ -14,7 +16,7 @@ use Rattle.csv_cutter.specs.declared.looks.Ahead.TheVariants.{Delimiter, ObjectE
 use Rattle.csv_cutter.specs.declared.records.Pending.{Pending}
 use Rattle.csv_cutter.specs.declared.records.Pending.TheVariants.{Nothing, Passed, Rest}
 use Rattle.csv_cutter.specs.declared.records.QuotedRecords.{QuotedRecords}
-use Rattle.csv_cutter.specs.Records.{AreRecords, delimiter_of}
+use Rattle.csv_cutter.specs.Records.{AreRecords, delimiter_of, content_at}
 use Rattle.csv_cutter.specs.Stops.{stop_from, body_len, cut_of}
 use Rattle.csv_cutter.specs.Looks.{Moves, Stays, IsLook, Ends, IsFound}
 use Rattle.csv_cutter.specs.Cutter.{pending_len, next_start, Left, IsReady, Settles, Finds, ShowsFound, FindsNext, TakesRecord, GoesOn, LendsLine, LendsRecord, StandsThere}
@@ -122,7 +124,7 @@ pub settle_rest : (opened : Opened) (cutter later : QuotedRecords) (old v w x ne
     → cutter.longest ≡ old.longest → cutter.pending ≡ Rest s n → later.dialect ≡ cutter.dialect → later.longest ≡ cutter.longest → later.pending ≡ Nothing
     → (old.failed ≡ true → ⊥) → x.failed ≡ false
     → ((object : List ℕ) → Holds object x → (cuts : List Cut) → AreRecords cutter.dialect object (x.place + 0 + stop_from cutter.dialect t (drop (x.place + 0) object) + length (delimiter_of cutter.dialect)) cuts
-        → AreRecords cutter.dialect object (x.place + k) cuts)
+    → AreRecords cutter.dialect object (x.place + k) cuts)
     → Settles opened cutter later old new (Ok tt) before now
 settle_rest opened cutter later old v w x new s n t m k before between now p passes limit pending d l none works fine ends =
     let moved = passed_moves opened cutter.dialect old v w x s n t m before between now p in
@@ -223,6 +225,7 @@ found_next opened cutter later old mid new result before between now s stays fai
     by_found : (result : Result Found Failed) → IfOk result (IsFound opened later.dialect mid new) → IfOk result (Finds later.dialect new)
     by_found (Ok found) h = finds opened later.dialect mid new found h
     by_found (Err failed) h = tt
+
     by_object : (object : List ℕ) → Tells opened object → Holds object mid → (result : Result Found Failed) → IfOk result (IsFound opened later.dialect mid new) → IfOk result (ShowsFound later.dialect object new)
     by_object object t h (Ok found) f = shows_found opened later.dialect mid new found object stays.place t h f
     by_object object t h (Err failed) f = tt
@@ -300,3 +303,66 @@ took_long opened cutter found later old new state n start before now valid f s d
         };
       };
 }
+
+-- the line that was lent shows the first record
+shows_record : (d : Dialect) → is_valid d ≡ true → (object : List ℕ) (mid new : View) (len behind longest : ℕ) (line : Line) (cuts after : List Cut) → new.place ≡ mid.place
+    → ShowsFound d object mid (Record len behind) → len ≤ longest → cuts ≡ cut_of d object mid.place ∷ after → LendsLine new len behind (Ok line) object → IsNextCut longest cuts after line
+shows_record d valid object mid new len behind longest (At start bytes whole) cuts after e shows short is line =
+    let same : start ≡ mid.place = line.0 ∙ e in
+    let body : take len (drop new.place object) ≡ (cut_of d object mid.place).body = ap (λ p. take len (drop p object)) e ∙ ap (λ n. take n (drop mid.place object)) shows.0 in
+    record {
+      cut = cut_of d object mid.place;
+      first = is;
+      shown = (
+        same,
+        record {
+          short = omega (arith, short, shows.0, length-take (body_len d mid.place (drop mid.place object)) (drop mid.place object));
+          bytes = line.1 ∙ ap (content_at start) body ∙ ap (λ p. content_at p (cut_of d object mid.place).body) same;
+          whole = line.2 ∙ shows.1 ∙ ap (λ n. min (n + length (delimiter_of d)) (length object - mid.place)) shows.0;
+        },
+      );
+    }
+shows_record d valid object mid new len behind longest (TooLong start) cuts after e shows short is line = absurd line
+shows_record d valid object mid new len behind longest End cuts after e shows short is line = absurd line
+
+pub took_record : (opened : Opened) (cutter found later : QuotedRecords) (old mid new : View) (len behind : ℕ) (result : Result Line Failed) (before between now : ℕ) → is_valid found.dialect ≡ true
+    → FindsNext opened cutter found old mid (Ok (Record len behind)) before between → LendsRecord opened found later mid new len behind result between now
+    → TakesRecord opened cutter later old new result before now
+took_record opened cutter found later old mid new len behind result before between now valid f lends = record {
+  moves = moves_on opened old mid new before between now f.moves lends.stays.moves;
+  ready = lends.ready;
+  dialect = lends.dialect ∙ f.dialect;
+  failed = lends.failed;
+  place = lends.place;
+  told = λ object t h cuts left. by_result result (lends.passed) (lends.unpassed) object t h cuts left (lends.told object t (f.moves.told object t h));
+}
+  where
+    by_result : (result : Result Line Failed) → (IsOk result → later.pending ≡ Passed (len + behind)) → (IsErr result → later.pending ≡ Nothing)
+        → (object : List ℕ) → Tells opened object → Holds object old → (cuts : List Cut) → Left cutter object old cuts → LendsLine new len behind result object
+        → GoesOn later object new old.longest cuts result
+    by_result (Ok line) passed unpassed object t h cuts left shown =
+        let here = f.moves.told object t h in
+        let there = settled_records found object mid cuts (f.settled refl) (f.told object t h cuts left) in
+        let first = first_record found.dialect valid object mid.place cuts (omega (arith, f.found.0, here.size)) there in
+        let shows = f.shows object t h in
+        let whole : mid.place + (cut_of found.dialect object mid.place).whole ≡ new.place + (len + behind) =
+        omega (arith, shows.1, ap (λ n. min (n + length (delimiter_of found.dialect)) (length object - mid.place)) shows.0, lends.stays.place) in
+        let P : Dialect → Type 0 = λ x. AreRecords x object (next_start x (Passed (len + behind)) object new.place) first.others in
+        record {
+          after = first.others;
+          left = records_left later object new first.others (Passed (len + behind)) (passed refl) (subst P (sym lends.dialect) (records_at found.dialect object _ _ first.others whole first.rest));
+          next = shows_record found.dialect valid object mid new len behind old.longest line cuts first.others lends.stays.place shows (omega (arith, f.found.2, f.moves.rules.longest)) first.is shown;
+        }
+    by_result (Err failed) passed unpassed object t h cuts left shown =
+        let there = settled_records found object mid cuts (f.settled refl) (f.told object t h cuts left) in
+        let P : Dialect → Type 0 = λ x. AreRecords x object (next_start x Nothing object new.place) cuts in
+        record {
+          after = cuts;
+          left = records_left later object new cuts Nothing (unpassed refl) (subst P (sym lends.dialect) (records_at found.dialect object _ _ cuts (sym lends.stays.place) there));
+          next = refl;
+        }
+
+-- a cause that came in the second of two calls
+pub later_cause : {A : Type 0} (result : Result A Failed) (P Q : Type 0) (before between now : ℕ) → P → before ≤ between → OnErr result (P → Rose between now) → OnErr result (Q → Rose before now)
+later_cause (Ok a) P Q before between now p l h = tt
+later_cause (Err failed) P Q before between now p l h = λ _. let rose = h p in omega (arith, l, rose)

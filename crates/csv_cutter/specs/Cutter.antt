@@ -96,6 +96,7 @@ pub record LendsRecord (opened : Opened) (cutter later : QuotedRecords) (old new
   pub ready : IsReady later new
   pub dialect : later.dialect ≡ cutter.dialect
   pub failed : new.failed ≡ is_err result
+  pub place : StandsThere new result
   pub passed : IsOk result → later.pending ≡ Passed (len + behind)
   pub unpassed : IsErr result → later.pending ≡ Nothing
   pub told : (object : List ℕ) → Tells opened object → Holds object old → LendsLine new len behind result object

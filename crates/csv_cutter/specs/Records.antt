@@ -49,5 +49,3 @@ EachObjectHasRecords = (d : Dialect) → is_valid d ≡ true → (object : List 
 abbrev pub RecordsAreOne : Type 0
 RecordsAreOne =
     (d : Dialect) → is_valid d ≡ true → (object : List ℕ) (one other : List Cut) → AreRecords d object 0 one → AreRecords d object 0 other → one ≡ other
-
-

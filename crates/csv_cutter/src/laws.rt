@@ -12,5 +12,4 @@ pub fn line_has_one_reading()
 pub fn object_has_one_cutting()
     ensures some { EachObjectHasRecords }
     ensures one { RecordsAreOne }
-{
-}
+{}

@@ -120,7 +120,11 @@ fn look_at(dialect: &Dialect, bytes: &[u8], from: usize, state: State, last: boo
 }
 
 // Reads the first bytes of the record at the window's place, unless the object ends there.
-fn open_record<S: Store>(dialect: &Dialect, window: &mut Window, store: &mut S) -> Result<Option<Opening>, Failed>
+fn open_record<S: Store>(
+    dialect: &Dialect,
+    window: &mut Window,
+    store: &mut S,
+) -> Result<Option<Opening>, Failed>
     requires object { IsOpen (S.current store.old) window.old.size }
     requires sound { IsSound window.old }
     ensures window { Stays (S.current store.old) window.old window.new (S.taken store.old) (S.taken store.new) }

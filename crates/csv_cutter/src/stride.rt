@@ -154,7 +154,13 @@ fn stride(dialect: &Dialect, bytes: &[u8], from: usize, state: State, last: bool
 }
 
 /// Walks from a place to where the record ends, or as far as the bytes tell.
-pub(crate) fn walk(dialect: &Dialect, bytes: &[u8], from: usize, state: State, last: bool) -> Stretch
+pub(crate) fn walk(
+    dialect: &Dialect,
+    bytes: &[u8],
+    from: usize,
+    state: State,
+    last: bool,
+) -> Stretch
     requires valid { is_valid dialect.now ≡ true }
     requires within { from ≤ length bytes.now }
     ensures { IsWalk dialect.now bytes.now last from state result }
