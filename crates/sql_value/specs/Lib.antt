@@ -1,0 +1,4 @@
+pub mod Arithmetic
+pub mod Compared
+pub mod Numbers
+pub mod Outcomes
