@@ -9,8 +9,8 @@ use Rattle.sql_decimal.specs.declared.number.Num.{Num}
 use Rattle.sql_decimal.specs.declared.number.Num.TheVariants as number
 use Rattle.sql_value.specs.declared.value.Value.{Value}
 use Rattle.sql_value.specs.declared.value.Value.TheVariants.{Missing, Null, Bool as Truth, Int, Dec, Text, Stamp, Node, Bad}
-use Rattle.sql_value.specs.declared.stub.ValueFault.{ValueFault}
-use Rattle.sql_value.specs.declared.stub.ValueFault.TheVariants.{CastFailed, IntegerOverflow, NumberOverflow, DivideByZero, InvalidOperands}
+use Rattle.sql_timestamp.specs.declared.fault.ValueFault.{ValueFault}
+use Rattle.sql_timestamp.specs.declared.fault.ValueFault.TheVariants.{CastFailed, IntegerOverflow, NumberOverflow, DivideByZero, InvalidOperands}
 use Rattle.sql_value.specs.declared.operation.Arith.{Arith}
 use Rattle.sql_value.specs.declared.operation.Arith.TheVariants.{Add, Sub, Mul, Div, Rem}
 use Rattle.sql_value.specs.Outcomes.{Outcome, both, int_outcome, decimal_outcome}

@@ -5,8 +5,8 @@ use Rattle.sql_decimal.specs.declared.decimal.NumFault.{NumFault}
 use Rattle.sql_decimal.specs.declared.decimal.NumFault.TheVariants as decimal
 use Rattle.sql_value.specs.declared.value.Value.{Value}
 use Rattle.sql_value.specs.declared.value.Value.TheVariants.{Null, Int, Dec}
-use Rattle.sql_value.specs.declared.stub.ValueFault.{ValueFault}
-use Rattle.sql_value.specs.declared.stub.ValueFault.TheVariants.{NumberOverflow, DivideByZero}
+use Rattle.sql_timestamp.specs.declared.fault.ValueFault.{ValueFault}
+use Rattle.sql_timestamp.specs.declared.fault.ValueFault.TheVariants.{NumberOverflow, DivideByZero}
 
 -- a value or a fault
 abbrev pub Outcome : Type 0

@@ -5,7 +5,7 @@ ghost use Rattle.sql_value.specs.Arithmetic.{number_operand, int_or_overflow, un
 
 use crate::operation::Arith;
 use crate::numbers::{fraction, read_number};
-use crate::stub::ValueFault;
+use sql_timestamp::ValueFault;
 use crate::value::Value;
 use sql_decimal::{Dec, Num, NumFault};
 
@@ -93,15 +93,15 @@ fn calculate_numbers<'r>(op: Arith, left: Num, right: Num, out: &mut Value<'r>) 
     }
 }
 
-#[tactic(auto, unfolding(crate::specs::Arithmetic::int_result))]
+#[tactic(auto, using(crate::proofs::Checked::checked_is), unfolding(crate::specs::Arithmetic::int_result))]
 #[inline]
 fn calculate_ints(op: Arith, left: i64, right: i64) -> Result<i64, ValueFault>
     ensures { result ≡ int_result op left right }
 {
     match op {
-        Arith::Add => within(left.checked_add(right)),
-        Arith::Sub => within(left.checked_sub(right)),
-        Arith::Mul => within(left.checked_mul(right)),
+        Arith::Add => left.checked_add(right).ok_or(ValueFault::IntegerOverflow),
+        Arith::Sub => left.checked_sub(right).ok_or(ValueFault::IntegerOverflow),
+        Arith::Mul => left.checked_mul(right).ok_or(ValueFault::IntegerOverflow),
         Arith::Div => divide(left, right),
         Arith::Rem => remainder(left, right),
     }
@@ -120,32 +120,26 @@ fn calculate_decs(op: Arith, left: &Dec, right: &Dec) -> Result<Dec, NumFault>
     }
 }
 
+/// The quotient, cut toward zero.
+#[tactic(auto, using(crate::proofs::Checked::checked_quotient))]
 fn divide(left: i64, right: i64) -> Result<i64, ValueFault>
     ensures { result ≡ unless_zero right (int_or_overflow (int_div left right)) }
 {
     if right == 0 {
         return Err(ValueFault::DivideByZero);
     }
-    within(left.checked_div(right))
+    left.checked_div(right).ok_or(ValueFault::IntegerOverflow)
 }
 
+/// What the division leaves, which is always within 64 bits.
+#[tactic(auto, using(crate::proofs::Checked::is_within))]
 fn remainder(left: i64, right: i64) -> Result<i64, ValueFault>
     ensures { result ≡ unless_zero right (int_or_overflow (int_rem left right)) }
 {
     if right == 0 {
         return Err(ValueFault::DivideByZero);
     }
-    if right == -1 {
-        return Ok(0);
-    }
-    Ok(left % right)
-}
-
-fn within(answer: Option<i64>) -> Result<i64, ValueFault> {
-    match answer {
-        Some(int) => Ok(int),
-        None => Err(ValueFault::IntegerOverflow),
-    }
+    Ok(left.wrapping_rem(right))
 }
 
 #[inline]

@@ -5,7 +5,7 @@ ghost use Rattle.sql_value.specs.Numbers.{whole, fraction_of};
 ghost use Rattle.sql_value.specs.Compared.{order_of, known, fractions};
 
 use crate::numbers::{fraction, read_number};
-use crate::stub::ValueText;
+use text_view::Text as ValueText;
 use crate::value::Value;
 use sql_decimal::{Dec, Num};
 use std::cmp::Ordering;

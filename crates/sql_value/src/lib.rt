@@ -5,11 +5,10 @@ mod arithmetic;
 mod comparing;
 mod numbers;
 mod operation;
-mod stub;
 mod value;
 
 pub use crate::arithmetic::{arith, arith_into};
 pub use crate::operation::Arith;
 pub use crate::comparing::{Order, compare};
-pub use crate::stub::{Stamp, ValueFault};
 pub use crate::value::Value;
+pub use sql_timestamp::{Part, Stamp, ValueFault};

@@ -3,7 +3,7 @@ ghost use Rattle.std.specs.Prelude.{◌≡◌};
 ghost use Rattle.sql_decimal.specs.Reading.{number_of};
 ghost use Rattle.sql_value.specs.Numbers.{fraction_of};
 
-use crate::stub::ValueText;
+use text_view::Text as ValueText;
 use sql_decimal::{Dec, Num};
 
 /// The number that a text spells.

@@ -1,7 +1,8 @@
 //! The values that operators take and give.
 ghost use Rattle.std.specs.Prelude.{◌≡◌};
 
-use crate::stub::{Stamp, ValueFault, ValueText};
+use sql_timestamp::{Stamp, ValueFault};
+use text_view::Text as ValueText;
 use json_text::JsonNode;
 use sql_decimal::Dec;
 
