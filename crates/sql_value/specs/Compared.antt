@@ -6,6 +6,8 @@ use Rattle.std.specs.declared.cmp.Ordering.{Ordering}
 use Rattle.std.specs.declared.cmp.Ordering.TheVariants as ordering
 use Rattle.sql_decimal.specs.Decimal.{Decimal, compared}
 use Rattle.sql_decimal.specs.Reading.{number_of}
+use Rattle.sql_timestamp.specs.Instants.{Timestamp}
+use Rattle.sql_timestamp.specs.Reading.{spelled_timestamp}
 use Rattle.sql_value.specs.declared.value.Value.{Value}
 use Rattle.sql_value.specs.declared.value.Value.TheVariants.{Missing, Null, Bool as Truth, Int, Dec, Text, Stamp, Node, Bad}
 use Rattle.sql_value.specs.Numbers.{whole, fraction_of}
@@ -21,6 +23,10 @@ known ordering.Greater = Greater
 -- numbers are compared as fractions
 abbrev pub fractions : Decimal → Decimal → Order
 fractions a b = known (compared a b)
+
+-- timestamps are compared by instant
+abbrev pub instants : Timestamp → Timestamp → Order
+instants a b = known (int_cmp a.instant b.instant)
 
 -- a text beside a number or a timestamp is read as one; an unreadable one is unknown
 abbrev pub as_read : {A : Type 0} → Option A → (A → Order) → Order
@@ -39,4 +45,7 @@ order_of (Dec a) (Text b) = as_read (number_of b) (λ n. fractions a (fraction_o
 order_of (Text a) (Int b) = as_read (number_of a) (λ n. fractions (fraction_of n) (whole b))
 order_of (Text a) (Dec b) = as_read (number_of a) (λ n. fractions (fraction_of n) b)
 order_of (Text a) (Text b) = known (slice_cmp nat_cmp a b)
+order_of (Stamp a) (Stamp b) = instants a b
+order_of (Stamp a) (Text b) = as_read (spelled_timestamp b) (λ t. instants a t)
+order_of (Text a) (Stamp b) = as_read (spelled_timestamp a) (λ t. instants t b)
 order_of _ _ = Unknown

@@ -4,7 +4,7 @@ ghost use Rattle.sql_value.specs.Outcomes.{Wrote, int_outcome, decimal_outcome, 
 ghost use Rattle.sql_value.specs.Arithmetic.{number_operand, int_or_overflow, unless_zero, int_result, decimal_result, number_result, calculated};
 
 use crate::operation::Arith;
-use crate::numbers::{fraction, read_number};
+use crate::numbers::fraction;
 use sql_timestamp::ValueFault;
 use crate::value::Value;
 use sql_decimal::{Dec, Num, NumFault};
@@ -69,7 +69,7 @@ fn judge_number(value: &Value<'_>) -> Result<Option<Num>, ValueFault>
         Value::Null => Ok(None),
         Value::Int(int) => Ok(Some(Num::Int(*int))),
         Value::Dec(dec) => Ok(Some(Num::Dec(*dec))),
-        Value::Text(text) => match read_number(text) {
+        Value::Text(text) => match text.number() {
             Some(number) => Ok(Some(number)),
             None => Err(ValueFault::CastFailed),
         },
@@ -143,7 +143,7 @@ fn remainder(left: i64, right: i64) -> Result<i64, ValueFault>
 }
 
 #[inline]
-fn write_int<'r>(answer: Result<i64, ValueFault>, out: &mut Value<'r>) -> Option<ValueFault>
+pub(crate) fn write_int<'r>(answer: Result<i64, ValueFault>, out: &mut Value<'r>) -> Option<ValueFault>
     ensures { Wrote (int_outcome answer) result out.old out.new }
 {
     match answer {
@@ -156,7 +156,7 @@ fn write_int<'r>(answer: Result<i64, ValueFault>, out: &mut Value<'r>) -> Option
 }
 
 #[inline]
-fn write_dec<'r>(answer: Result<Dec, NumFault>, out: &mut Value<'r>) -> Option<ValueFault>
+pub(crate) fn write_dec<'r>(answer: Result<Dec, NumFault>, out: &mut Value<'r>) -> Option<ValueFault>
     ensures { Wrote (decimal_outcome answer) result out.old out.new }
 {
     match answer {

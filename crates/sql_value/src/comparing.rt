@@ -2,12 +2,13 @@
 ghost use Rattle.std.specs.Prelude.{◌≡◌, List, ℕ};
 ghost use Rattle.sql_decimal.specs.Decimal.{Decimal};
 ghost use Rattle.sql_value.specs.Numbers.{whole, fraction_of};
-ghost use Rattle.sql_value.specs.Compared.{order_of, known, fractions};
+ghost use Rattle.sql_value.specs.Compared.{order_of, known, fractions, instants};
 
-use crate::numbers::{fraction, read_number};
-use text_view::Text as ValueText;
+use crate::numbers::fraction;
+use value_text::ValueText;
 use crate::value::Value;
 use sql_decimal::{Dec, Num};
+use sql_timestamp::Stamp;
 use std::cmp::Ordering;
 
 /// The order of two values, where it is known.
@@ -41,6 +42,7 @@ pub fn compare(left: &Value<'_>, right: &Value<'_>) -> Order
         Value::Dec(left) => compare_dec(left, right),
         Value::Text(left) => compare_text(left, right),
         Value::Bool(left) => compare_truth(*left, right),
+        Value::Stamp(left) => compare_stamp(left, right),
         _ => Order::Unknown,
     }
 }
@@ -62,7 +64,7 @@ fn compare_int(left: i64, right: &Value<'_>) -> Order
     match right {
         Value::Int(right) => compare_ints(left, *right),
         Value::Dec(right) => compare_fractions(&Dec::of_int(left), right),
-        Value::Text(right) => match read_number(right) {
+        Value::Text(right) => match right.number() {
             Some(right) => compare_numbers(&Num::Int(left), &right),
             None => Order::Unknown,
         },
@@ -77,7 +79,7 @@ fn compare_dec(left: &Dec, right: &Value<'_>) -> Order
     match right {
         Value::Int(right) => compare_fractions(left, &Dec::of_int(*right)),
         Value::Dec(right) => compare_fractions(left, right),
-        Value::Text(right) => match read_number(right) {
+        Value::Text(right) => match right.number() {
             Some(right) => compare_fractions(left, &fraction(right)),
             None => Order::Unknown,
         },
@@ -91,12 +93,30 @@ fn compare_text(left: &ValueText<'_>, right: &Value<'_>) -> Order
 {
     match right {
         Value::Text(right) => known_order(left.compare(right)),
-        Value::Int(right) => match read_number(left) {
+        Value::Int(right) => match left.number() {
             Some(left) => compare_numbers(&left, &Num::Int(*right)),
             None => Order::Unknown,
         },
-        Value::Dec(right) => match read_number(left) {
+        Value::Dec(right) => match left.number() {
             Some(left) => compare_fractions(&fraction(left), right),
+            None => Order::Unknown,
+        },
+        Value::Stamp(right) => match left.stamp() {
+            Some(left) => compare_instants(&left, right),
+            None => Order::Unknown,
+        },
+        _ => Order::Unknown,
+    }
+}
+
+#[tactic(auto, unfolding(crate::specs::Compared::order_of))]
+fn compare_stamp(left: &Stamp, right: &Value<'_>) -> Order
+    ensures { result ≡ order_of (Value.Stamp left.now) right.now }
+{
+    match right {
+        Value::Stamp(right) => compare_instants(left, right),
+        Value::Text(right) => match right.stamp() {
+            Some(right) => compare_instants(left, &right),
             None => Order::Unknown,
         },
         _ => Order::Unknown,
@@ -126,6 +146,13 @@ fn compare_ints(left: i64, right: i64) -> Order
 #[inline]
 fn compare_fractions(left: &Dec, right: &Dec) -> Order
     ensures { result ≡ fractions left.now right.now }
+{
+    known_order(left.compare(right))
+}
+
+#[inline]
+fn compare_instants(left: &Stamp, right: &Stamp) -> Order
+    ensures { result ≡ instants left.now right.now }
 {
     known_order(left.compare(right))
 }

@@ -2,13 +2,19 @@
 #![tactic(auto)]
 
 mod arithmetic;
+mod casting;
 mod comparing;
 mod numbers;
 mod operation;
+mod settling;
+mod target;
 mod value;
 
 pub use crate::arithmetic::{arith, arith_into};
-pub use crate::operation::Arith;
+pub use crate::casting::{cast, cast_into};
 pub use crate::comparing::{Order, compare};
+pub use crate::operation::Arith;
+pub use crate::settling::{settle, settle_in_place};
+pub use crate::target::Target;
 pub use crate::value::Value;
 pub use sql_timestamp::{Part, Stamp, ValueFault};

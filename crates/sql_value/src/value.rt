@@ -2,7 +2,7 @@
 ghost use Rattle.std.specs.Prelude.{◌≡◌};
 
 use sql_timestamp::{Stamp, ValueFault};
-use text_view::Text as ValueText;
+use value_text::ValueText;
 use json_text::JsonNode;
 use sql_decimal::Dec;
 
