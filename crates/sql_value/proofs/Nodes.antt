@@ -1,8 +1,10 @@
 -- What a JSON value is, told by its bytes.
-use Rattle.std.proofs.Common.{◌≡◌, ℕ, ◌-◌, List, [], ◌∷◌, ◌++◌, Option, None, Some, length, take, length-append, refl, sym, ap, subst, ◌∙◌, arith}
+use Rattle.std.proofs.Common.{◌≡◌, ℕ, true, false, ◌==◌, if◌then◌else◌, ◌-◌, List, [], ◌∷◌, ◌++◌, Option, None, Some, length, take, length-append, refl, sym, ap, subst, ◌∙◌, arith}
 use Rattle.std.specs.Prelude.{slice_range}
 use Rattle.std.specs.Str.{chars}
 use Rattle.std.proofs.Math.Logic.{∥∥₁_elim}
+use Rattle.std.proofs.Math.Nat.{ℕ_set}
+use mathlib.Core.List.{is_set as List-set}
 use Rattle.std.proofs.Math.Seq.{take-append_seam}
 use Rattle.text_view.specs.JsonString.{unescaped_text}
 use Rattle.json_text.specs.Grammar.{Json, null, truth, number, string, empty_array, array, empty_object, object, print}
@@ -18,10 +20,38 @@ use Rattle.sql_value.specs.declared.value.Value.TheVariants.{Text, Node}
 at_tree : (bytes : List ℕ) (tree : Json) → Spells bytes tree → kind_at bytes ≡ kind_of tree
 at_tree bytes tree x = kind_told bytes bytes (kind_at bytes) refl refl tree x
 
+-- kinds as numbers, which tell them apart
+place : Kind → ℕ
+place kind.Null = 0
+place (kind.Bool true) = 1
+place (kind.Bool false) = 2
+place kind.Number = 3
+place kind.Text = 4
+place kind.Array = 5
+place kind.Object = 6
+
+at_place : ℕ → Kind
+at_place n =
+    if n == 0 then kind.Null else if n == 1 then kind.Bool true else if n == 2 then kind.Bool false
+    else if n == 3 then kind.Number else if n == 4 then kind.Text else if n == 5 then kind.Array else kind.Object
+
+back : (k : Kind) → at_place (place k) ≡ k
+unfolding at_place place
+back kind.Null = refl
+back (kind.Bool true) = refl
+back (kind.Bool false) = refl
+back kind.Number = refl
+back kind.Text = refl
+back kind.Array = refl
+back kind.Object = refl
+
+same_kind : (a b : Kind) → place a ≡ place b → a ≡ b
+same_kind a b e = sym (back a) ∙ ap at_place e ∙ back b
+
 pub kind_is : (bytes raw : List ℕ) (k : Kind) → raw ≡ bytes → ∥ IsNode raw ∥₁ → ((tree : Json) → Spells bytes tree → k ≡ kind_of tree) → k ≡ kind_at bytes
 kind_is bytes raw k same node told =
     let here : ∥ IsNode bytes ∥₁ = subst (λ b. ∥ IsNode b ∥₁) same node in
-    ∥∥₁_elim here (hlevel) (λ x. told x.tree x.spells ∙ sym (at_tree bytes x.tree x.spells))
+    same_kind k (kind_at bytes) (∥∥₁_elim here (hlevel ℕ_set) (λ x. ap place (told x.tree x.spells ∙ sym (at_tree bytes x.tree x.spells))))
 
 -- between the quotation marks
 middle : (raw : List ℕ) → inside (34 ∷ (raw ++ 34 ∷ [])) ≡ raw
@@ -57,7 +87,7 @@ told_none (object m ms) k t = cc
 pub text_is : (bytes raw text : List ℕ) → raw ≡ bytes → ∥ IsNode raw ∥₁ → kind_at bytes ≡ kind.Text → ((tree : Json) → Spells bytes tree → IsTextOf tree (Some text)) → text ≡ unescaped_text (chars (inside bytes))
 text_is bytes raw text same node k told =
     let here : ∥ IsNode bytes ∥₁ = subst (λ b. ∥ IsNode b ∥₁) same node in
-    ∥∥₁_elim here (hlevel) (λ x. told_text bytes x.tree text (sym (at_tree bytes x.tree x.spells) ∙ k) x.spells.spelled (told x.tree x.spells))
+    ∥∥₁_elim here (hlevel (ℕ_set, List-set)) (λ x. told_text bytes x.tree text (sym (at_tree bytes x.tree x.spells) ∙ k) x.spells.spelled (told x.tree x.spells))
 
 pub text_there : (bytes raw : List ℕ) → raw ≡ bytes → ∥ IsNode raw ∥₁ → kind_at bytes ≡ kind.Text → ((tree : Json) → Spells bytes tree → IsTextOf tree None) → ⊥
 text_there bytes raw same node k told =

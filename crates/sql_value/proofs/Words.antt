@@ -10,4 +10,4 @@ pub reads_word : (word text : List ℕ) → map to_ascii_lowercase text ≡ map 
 reads_word word text h = (bytes_eq-Decides (map to_ascii_lowercase text) (map to_ascii_lowercase (chars word))).1 h
 
 pub other_word : (word text : List ℕ) → (map to_ascii_lowercase text ≡ map to_ascii_lowercase (chars word) → ⊥) → reads_as word text ≡ false
-other_word word text h = false_from_ne_true (λ e. h ((bytes_eq-Decides (map to_ascii_lowercase text) (map to_ascii_lowercase (chars word))).0 e))
+other_word word text h = false_from_ne_true _ (λ e. h ((bytes_eq-Decides (map to_ascii_lowercase text) (map to_ascii_lowercase (chars word))).0 e))
