@@ -1,10 +1,10 @@
 -- What a checked operation on whole numbers answers.
-use Rattle.std.proofs.Common.{◌≡◌, Bool, IsTrue, ℕ, zero, suc, ◌<◌, ◌^◌, ℤ, pos, negsuc, int_div, unsigned_abs, Option, Some, None, Ok, Err, true, false, ◌==◌, nat_lt, refl, ap, sym, ◌∙◌, arith, FitsSigned, w64, if◌then◌else◌}
+use Rattle.std.proofs.Common.{◌≡◌, Bool, IsTrue, ℕ, ◌<◌, ◌^◌, ℤ, pos, negsuc, int_div, unsigned_abs, Option, Some, None, Ok, true, false, ◌==◌, nat_lt, refl, arith, FitsSigned, w64}
 use Rattle.std.specs.Option.{SomeIff, ok_or}
 use Rattle.std.specs.Int.{CanDivide, IsNonZero}
 use Rattle.std.proofs.lemmas.Bool.Decides.{nat_tests}
 use Rattle.sql_decimal.specs.Decimal.{is_64_bit}
-use Rattle.sql_timestamp.specs.declared.fault.ValueFault.TheVariants.{IntegerOverflow, DivideByZero}
+use Rattle.sql_timestamp.specs.declared.fault.ValueFault.TheVariants.{IntegerOverflow}
 use Rattle.sql_value.specs.Arithmetic.{int_or_overflow, unless_zero}
 
 fits : (z : ℤ) → FitsSigned w64 z → is_64_bit z ≡ true

@@ -1,16 +1,15 @@
 -- Arithmetic on values.
-use Rattle.std.specs.Prelude.{ℕ, ℤ, pos, ◌+ℤ◌, ◌-ℤ◌, ◌*ℤ◌, int_div, int_rem, unsigned_abs, ◌==◌, List, Option, None, Some, Result, Ok, Err, if◌then◌else◌}
+use Rattle.std.specs.Prelude.{ℤ, ◌+ℤ◌, ◌-ℤ◌, ◌*ℤ◌, int_div, int_rem, unsigned_abs, ◌==◌, Option, None, Some, Result, Ok, Err, if◌then◌else◌}
 use Rattle.sql_decimal.specs.Decimal.{Decimal, is_64_bit}
 use Rattle.sql_decimal.specs.Arithmetic.{sum, difference, product, quotient, remainder}
 use Rattle.sql_decimal.specs.Reading.{number_of}
 use Rattle.sql_decimal.specs.declared.decimal.NumFault.{NumFault}
-use Rattle.sql_decimal.specs.declared.decimal.NumFault.TheVariants as decimal
 use Rattle.sql_decimal.specs.declared.number.Num.{Num}
 use Rattle.sql_decimal.specs.declared.number.Num.TheVariants as number
 use Rattle.sql_value.specs.declared.value.Value.{Value}
 use Rattle.sql_value.specs.declared.value.Value.TheVariants.{Missing, Null, Bool as Truth, Int, Dec, Text, Stamp, Node, Bad}
 use Rattle.sql_timestamp.specs.declared.fault.ValueFault.{ValueFault}
-use Rattle.sql_timestamp.specs.declared.fault.ValueFault.TheVariants.{CastFailed, IntegerOverflow, NumberOverflow, DivideByZero, InvalidOperands}
+use Rattle.sql_timestamp.specs.declared.fault.ValueFault.TheVariants.{CastFailed, IntegerOverflow, DivideByZero, InvalidOperands}
 use Rattle.sql_value.specs.declared.operation.Arith.{Arith}
 use Rattle.sql_value.specs.declared.operation.Arith.TheVariants.{Add, Sub, Mul, Div, Rem}
 use Rattle.sql_value.specs.Outcomes.{Outcome, both, int_outcome, decimal_outcome}

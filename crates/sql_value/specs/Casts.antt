@@ -1,5 +1,5 @@
 -- CAST: what a value becomes in another type. All that isn't listed is CastFailed.
-use Rattle.std.specs.Prelude.{◌≤◌, ℕ, ℤ, pos, unsigned_abs, Bool, true, false, not, ◌==◌, List, map, codes, Option, None, Some, Result, Ok, Err, if◌then◌else◌}
+use Rattle.std.specs.Prelude.{◌≤◌, ℕ, pos, unsigned_abs, Bool, true, false, not, ◌==◌, List, map, codes, Option, None, Some, Ok, Err, if◌then◌else◌}
 use Rattle.std.specs.Str.{chars, bytes_eq}
 use Rattle.std.specs.Char.{to_ascii_lowercase}
 use Rattle.std.specs.Fmt.{signed_decimal}

@@ -1,5 +1,5 @@
 -- Comparison: less, equal, greater or unknown.
-use Rattle.std.specs.Prelude.{◌≡◌, ℕ, ℤ, Bool, List, Option, None, Some}
+use Rattle.std.specs.Prelude.{Option, None, Some}
 use Rattle.std.specs.Ordering.{nat_cmp, int_cmp, bool_cmp}
 use Rattle.std.specs.Cmp.Lexicographic.{slice_cmp}
 use Rattle.std.specs.declared.cmp.Ordering.{Ordering}
@@ -9,7 +9,7 @@ use Rattle.sql_decimal.specs.Reading.{number_of}
 use Rattle.sql_timestamp.specs.Instants.{Timestamp}
 use Rattle.sql_timestamp.specs.Reading.{spelled_timestamp}
 use Rattle.sql_value.specs.declared.value.Value.{Value}
-use Rattle.sql_value.specs.declared.value.Value.TheVariants.{Missing, Null, Bool as Truth, Int, Dec, Text, Stamp, Node, Bad}
+use Rattle.sql_value.specs.declared.value.Value.TheVariants.{Bool as Truth, Int, Dec, Text, Stamp}
 use Rattle.sql_value.specs.Numbers.{whole, fraction_of}
 use Rattle.sql_value.specs.declared.comparing.Order.{Order}
 use Rattle.sql_value.specs.declared.comparing.Order.TheVariants.{Less, Equal, Greater, Unknown}

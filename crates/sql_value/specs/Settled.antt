@@ -1,5 +1,5 @@
 -- Settling: what a value is to an operator that takes it as an operand.
-use Rattle.std.specs.Prelude.{◌-◌, ℕ, true, false, List, length, slice_range, Option, None, Some, Result, Ok, Err}
+use Rattle.std.specs.Prelude.{◌-◌, ℕ, List, length, slice_range, Option, None, Some, Ok, Err}
 use Rattle.std.specs.Str.{chars}
 use Rattle.text_view.specs.JsonString.{unescaped_text}
 use Rattle.json_text.specs.Grammar.{Json, null, truth, number as number_token, string, empty_array, array, empty_object, object}

@@ -3,11 +3,11 @@ ghost use Rattle.std.specs.Prelude.{◌≡◌, ◌+ℤ◌, ◌-ℤ◌, ◌*ℤ�
 ghost use Rattle.sql_value.specs.Outcomes.{Wrote, int_outcome, decimal_outcome, value_fault};
 ghost use Rattle.sql_value.specs.Arithmetic.{number_operand, int_or_overflow, unless_zero, int_result, decimal_result, number_result, calculated};
 
-use crate::operation::Arith;
 use crate::numbers::fraction;
-use sql_timestamp::ValueFault;
+use crate::operation::Arith;
 use crate::value::Value;
 use sql_decimal::{Dec, Num, NumFault};
+use sql_timestamp::ValueFault;
 
 /// What the operation makes of two settled values.
 ///
@@ -24,7 +24,12 @@ pub fn arith<'r>(op: Arith, left: &Value<'_>, right: &Value<'_>) -> Result<Value
 
 /// The same, written to `out`, which a fault leaves as it was.
 #[tactic(auto, unfolding(crate::specs::Arithmetic::calculated, crate::specs::Arithmetic::number_operand, crate::specs::Arithmetic::number_result))]
-pub fn arith_into<'r>(op: Arith, left: &Value<'_>, right: &Value<'_>, out: &mut Value<'r>) -> Option<ValueFault>
+pub fn arith_into<'r>(
+    op: Arith,
+    left: &Value<'_>,
+    right: &Value<'_>,
+    out: &mut Value<'r>,
+) -> Option<ValueFault>
     ensures { Wrote (calculated op left.now right.now) result out.old out.new }
 {
     if let Value::Int(left) = left {
@@ -37,7 +42,12 @@ pub fn arith_into<'r>(op: Arith, left: &Value<'_>, right: &Value<'_>, out: &mut 
 
 #[inline(never)]
 #[tactic(auto, unfolding(crate::specs::Arithmetic::calculated))]
-fn arith_of_any<'r>(op: Arith, left: &Value<'_>, right: &Value<'_>, out: &mut Value<'r>) -> Option<ValueFault>
+fn arith_of_any<'r>(
+    op: Arith,
+    left: &Value<'_>,
+    right: &Value<'_>,
+    out: &mut Value<'r>,
+) -> Option<ValueFault>
     ensures { Wrote (calculated op left.now right.now) result out.old out.new }
 {
     let left = match judge_number(left) {
@@ -81,7 +91,12 @@ fn judge_number(value: &Value<'_>) -> Result<Option<Num>, ValueFault>
 }
 
 #[tactic(auto, unfolding(crate::specs::Arithmetic::number_result))]
-fn calculate_numbers<'r>(op: Arith, left: Num, right: Num, out: &mut Value<'r>) -> Option<ValueFault>
+fn calculate_numbers<'r>(
+    op: Arith,
+    left: Num,
+    right: Num,
+    out: &mut Value<'r>,
+) -> Option<ValueFault>
     ensures { Wrote (number_result op left right) result out.old out.new }
 {
     match left {
@@ -143,7 +158,10 @@ fn remainder(left: i64, right: i64) -> Result<i64, ValueFault>
 }
 
 #[inline]
-pub(crate) fn write_int<'r>(answer: Result<i64, ValueFault>, out: &mut Value<'r>) -> Option<ValueFault>
+pub(crate) fn write_int<'r>(
+    answer: Result<i64, ValueFault>,
+    out: &mut Value<'r>,
+) -> Option<ValueFault>
     ensures { Wrote (int_outcome answer) result out.old out.new }
 {
     match answer {
@@ -156,7 +174,10 @@ pub(crate) fn write_int<'r>(answer: Result<i64, ValueFault>, out: &mut Value<'r>
 }
 
 #[inline]
-pub(crate) fn write_dec<'r>(answer: Result<Dec, NumFault>, out: &mut Value<'r>) -> Option<ValueFault>
+pub(crate) fn write_dec<'r>(
+    answer: Result<Dec, NumFault>,
+    out: &mut Value<'r>,
+) -> Option<ValueFault>
     ensures { Wrote (decimal_outcome answer) result out.old out.new }
 {
     match answer {

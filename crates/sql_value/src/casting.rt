@@ -185,7 +185,12 @@ fn cast_to_decimal<'r>(value: &Value<'_>, out: &mut Value<'r>) -> Option<ValueFa
 }
 
 #[tactic(auto, unfolding(crate::specs::Casts::to_decimal_of))]
-fn cast_to_decimal_of<'r>(value: &Value<'_>, digits: u8, scale: u8, out: &mut Value<'r>) -> Option<ValueFault>
+fn cast_to_decimal_of<'r>(
+    value: &Value<'_>,
+    digits: u8,
+    scale: u8,
+    out: &mut Value<'r>,
+) -> Option<ValueFault>
     requires at_least_one { 1 ≤ digits }
     requires at_most { digits ≤ 38 }
     requires scale { scale ≤ digits }

@@ -5,11 +5,11 @@ ghost use Rattle.sql_value.specs.Numbers.{whole, fraction_of};
 ghost use Rattle.sql_value.specs.Compared.{order_of, known, fractions, instants};
 
 use crate::numbers::fraction;
-use value_text::ValueText;
 use crate::value::Value;
 use sql_decimal::{Dec, Num};
 use sql_timestamp::Stamp;
 use std::cmp::Ordering;
+use value_text::ValueText;
 
 /// The order of two values, where it is known.
 #[derive(Clone, Copy, Debug, PartialEq, Eq)]

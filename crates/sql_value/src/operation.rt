@@ -9,4 +9,3 @@ pub enum Arith {
     Div,
     Rem,
 }
-

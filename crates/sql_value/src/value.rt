@@ -1,10 +1,10 @@
 //! The values that operators take and give.
 ghost use Rattle.std.specs.Prelude.{◌≡◌};
 
-use sql_timestamp::{Stamp, ValueFault};
-use value_text::ValueText;
 use json_text::JsonNode;
 use sql_decimal::Dec;
+use sql_timestamp::{Stamp, ValueFault};
+use value_text::ValueText;
 
 /// A value of a row or of an expression.
 ///
