@@ -1,0 +1,16 @@
+-- The two words of an instant: whole seconds, rounded down, and the nanoseconds of a second.
+use Rattle.std.specs.Prelude.{◌≡◌, ℕ, zero, suc, ◌+◌, ◌-◌, ◌*◌, ◌<◌, ◌≤◌, ℤ, pos, negsuc, ◌+ℤ◌, ◌*ℤ◌, unsigned_abs}
+use Rattle.std.specs.Int.{int_div_euclid, int_rem_euclid}
+use Rattle.std.proofs.Common.{arith}
+use Rattle.jiff_core.proofs.SignedLemmas.{signed_arith}
+use Rattle.sql_timestamp.specs.Instants.{second_nanos}
+
+-- so many seconds and nanoseconds
+abbrev pub joined : ℤ → ℕ → ℤ
+joined seconds nanos = seconds *ℤ pos second_nanos +ℤ pos nanos
+
+pub seconds_back : (s : ℤ) (n : ℕ) → n < second_nanos → int_div_euclid (joined s n) (pos second_nanos) ≡ s
+seconds_back s n h = omega (arith, signed_arith)
+
+pub nanos_back : (s : ℤ) (n : ℕ) → n < second_nanos → unsigned_abs (int_rem_euclid (joined s n) (pos second_nanos)) ≡ n
+nanos_back s n h = omega (arith, signed_arith)
