@@ -1,6 +1,5 @@
 -- Cuts of a text.
-use Rattle.std.proofs.Common.{◌≡◌, ℕ, zero, suc, ◌+◌, ◌-◌, ◌≤◌, ◌<◌, min, List, [], ◌∷◌, Option, Some, None, map, take, drop, length, refl, sym, ◌∙◌, ap, arith, length-drop}
-use Rattle.std.proofs.Math.Seq.{drop-nil}
+use Rattle.std.proofs.Common.{◌≡◌, ℕ, zero, suc, ◌+◌, ◌-◌, ◌≤◌, min, List, [], ◌∷◌, Option, Some, None, map, take, drop, length, refl, sym, ◌∙◌, ap, arith, length-drop}
 use Rattle.std.proofs.lemmas.Bool.Decides.{nat_tests}
 use Rattle.std.proofs.lemmas.List.{take_all, take-map, drop-map, drop-drop, drop-take, length-map, length-take}
 use Rattle.std.proofs.lemmas.Str.{encodes-chars, length-le-encodes}

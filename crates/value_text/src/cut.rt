@@ -54,10 +54,10 @@ impl Cut {
     fn part(self, text: &str) -> Text<'_>
         ensures { result ≡ at_most self.limit (drop self.from (chars text.now)) }
     {
-        let whole = Text::plain(text);
+        let from = u64::from(self.from);
         match self.limit {
-            Some(limit) => whole.sub(u64::from(self.from), u64::from(limit)),
-            None => whole.sub(u64::from(self.from), text.len() as u64),
+            Some(limit) => Text::plain(text).sub(from, u64::from(limit)),
+            None => Text::plain(text).sub(from, text.len() as u64),
         }
     }
 

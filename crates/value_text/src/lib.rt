@@ -2,7 +2,9 @@
 #![tactic(auto)]
 
 mod cut;
+mod numbers;
 mod printed;
+mod printed_reads;
 mod text;
 
 pub use crate::printed::Room;

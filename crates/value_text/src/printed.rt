@@ -4,11 +4,13 @@ ghost use Rattle.std.specs.Fmt.{signed_decimal};
 ghost use Rattle.std.specs.Str.{chars};
 ghost use Rattle.std.specs.Char.{to_ascii_uppercase, to_ascii_lowercase};
 ghost use Rattle.sql_decimal.specs.Printing.{printed};
+ghost use Rattle.sql_timestamp.specs.Printing.{printed_timestamp};
 ghost use Rattle.text_view.specs.Trimmed.{trimmed};
 
 use crate::cut::Cut;
 use arrayvec::ArrayString;
 use sql_decimal::Dec;
+use sql_timestamp::Stamp;
 use std::marker::Model;
 use text_view::{Side, Text};
 
@@ -19,6 +21,7 @@ pub type Room = ArrayString<48>;
 #[derive(Clone, Copy)]
 pub(crate) enum Source {
     Number(Cut, Dec),
+    Moment(Cut, Stamp),
 }
 
 /// The characters of a printed number or timestamp, or some of them.
@@ -55,6 +58,15 @@ impl Printed {
         }
     }
 
+    /// The text of a timestamp.
+    pub(crate) fn of_stamp(stamp: Stamp) -> Printed
+        ensures { result ≡ chars (printed_timestamp stamp) }
+    {
+        Printed {
+            source: Source::Moment(Cut::whole(), stamp),
+        }
+    }
+
     /// The same text again.
     pub(crate) fn again(&self) -> Printed
         ensures { result ≡ self.now }
@@ -73,6 +85,10 @@ impl Printed {
                 *room = dec.print();
                 cut.of(room.as_str())
             }
+            Source::Moment(cut, stamp) => {
+                *room = stamp.print();
+                cut.of(room.as_str())
+            }
         }
     }
 
@@ -84,6 +100,9 @@ impl Printed {
         let source = match self.source {
             Source::Number(cut, dec) => {
                 Source::Number(cut.sub(dec.print().as_str(), from, count), dec)
+            }
+            Source::Moment(cut, stamp) => {
+                Source::Moment(cut.sub(stamp.print().as_str(), from, count), stamp)
             }
         };
         Printed { source }
@@ -98,6 +117,9 @@ impl Printed {
             Source::Number(cut, dec) => {
                 Source::Number(cut.trim(dec.print().as_str(), side, set), dec)
             }
+            Source::Moment(cut, stamp) => {
+                Source::Moment(cut.trim(stamp.print().as_str(), side, set), stamp)
+            }
         };
         Printed { source }
     }
@@ -108,6 +130,7 @@ impl Printed {
     {
         let source = match self.source {
             Source::Number(cut, dec) => Source::Number(cut.upper(), dec),
+            Source::Moment(cut, stamp) => Source::Moment(cut.upper(), stamp),
         };
         Printed { source }
     }
@@ -118,6 +141,7 @@ impl Printed {
     {
         let source = match self.source {
             Source::Number(cut, dec) => Source::Number(cut.lower(), dec),
+            Source::Moment(cut, stamp) => Source::Moment(cut.lower(), stamp),
         };
         Printed { source }
     }

@@ -1,4 +1,4 @@
-use Rattle.std.proofs.Common.{◌≡◌, ◌≤◌, length, arith, ap, ◌∙◌}
+use Rattle.std.proofs.Common.{◌≡◌, length, arith, ap, ◌∙◌}
 use Rattle.std.specs.Str.{chars}
 use Rattle.value_text.specs.Cuts.{cut_of}
 use Rattle.value_text.proofs.CutLaws.{cut_begins, length-chars}

@@ -1,4 +1,4 @@
-use Rattle.std.proofs.Common.{◌≡◌, List, ℕ, length, take, drop, ap, ◌∙◌}
+use Rattle.std.proofs.Common.{◌≡◌, length, ap, ◌∙◌}
 use Rattle.std.specs.Str.{chars}
 use Rattle.text_view.specs.Trimmed.{trimmed}
 use Rattle.value_text.specs.Cuts.{cut_of, passed}
