@@ -14,3 +14,5 @@ mod texts;
 mod thrift;
 #[cfg(test)]
 mod tokens;
+#[cfg(test)]
+mod value_texts;

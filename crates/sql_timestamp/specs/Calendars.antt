@@ -3,27 +3,30 @@
 use Rattle.std.specs.Prelude.{ℕ, zero, suc, ◌+◌, ◌≤◌, ◌≡◌, Bool, ◌&&◌, nat_le, ℤ, pos, ◌-ℤ◌, unsigned_abs, int_le, if◌then◌else◌}
 use Rattle.jiff_core.specs.Calendar.{days_from_civil, days_in_month}
 
--- how many of the years 1 to n have begun by the day
-unfoldable pub years_begun : ℤ → ℕ → ℕ
-years_begun day zero = 0
-years_begun day (suc n) = years_begun day n + (if int_le (days_from_civil (pos (suc n)) 1 1) day then 1 else 0)
+-- how many of the first n starts have come by the day
+unfoldable pub begun : (ℕ → ℤ) → ℤ → ℕ → ℕ
+begun start day zero = 0
+begun start day (suc n) = begun start day n + (if int_le (start (suc n)) day then 1 else 0)
 
--- the year of a day: as many years have begun
+-- the first day of a year
+abbrev pub year_start : ℕ → ℤ
+year_start y = days_from_civil (pos y) 1 1
+
+-- the first day of a month of a year
+abbrev pub month_start : ℕ → ℕ → ℤ
+month_start y m = days_from_civil (pos y) m 1
+
+-- the year of a day: as many of the years from 1 on have begun
 unfoldable pub year_of : ℤ → ℕ
-year_of day = years_begun day 9999
-
--- how many of the first n months of the year have begun by the day
-unfoldable pub months_begun : ℤ → ℕ → ℕ → ℕ
-months_begun day y zero = 0
-months_begun day y (suc n) = months_begun day y n + (if int_le (days_from_civil (pos y) (suc n) 1) day then 1 else 0)
+year_of day = begun year_start day 9999
 
 -- the month of a day: as many months of its year have begun
 unfoldable pub month_of : ℤ → ℕ
-month_of day = months_begun day (year_of day) 12
+month_of day = begun (month_start (year_of day)) day 12
 
 -- the place of a day in its month, from 1
 unfoldable pub day_of : ℤ → ℕ
-day_of day = unsigned_abs (day -ℤ days_from_civil (pos (year_of day)) (month_of day) 1) + 1
+day_of day = unsigned_abs (day -ℤ month_start (year_of day) (month_of day)) + 1
 
 -- the calendar has this date, and its year is from 1 to 9999
 unfoldable pub is_date : ℕ → ℕ → ℕ → Bool
