@@ -11,7 +11,7 @@ use Rattle.json_text.specs.Nodes.{IsNode, Spells, kind_of, kind_at, IsTextOf}
 use Rattle.json_text.specs.declared.node.Kind.{Kind}
 use Rattle.json_text.specs.declared.node.Kind.TheVariants as kind
 use Rattle.json_text.proofs.Checks.{kind_told}
-use Rattle.sql_value.specs.Settled.{inside, tree_value, kind_value, judged, settled}
+use Rattle.sql_value.specs.Settled.{inside, tree_value, kind_value, judged, settled, is_null_kind, is_null_tree}
 use Rattle.sql_value.specs.declared.value.Value.{Value}
 use Rattle.sql_value.specs.declared.value.Value.TheVariants.{Text, Node}
 
@@ -111,3 +111,19 @@ value_by_tree bytes tree x = ap (λ k. kind_value k bytes) (at_tree bytes tree x
 pub settled_tree : (v : Value) (bytes : List ℕ) (tree : Json) → v ≡ Node bytes → Spells bytes tree → settled v ≡ judged (tree_value tree bytes)
 unfolding settled
 settled_tree v bytes tree e x = rw e (ap judged (value_by_tree bytes tree x))
+
+null_tree : (tree : Json) → is_null_kind (kind_of tree) ≡ is_null_tree tree
+null_tree null = refl
+null_tree (truth b) = refl
+null_tree (number n) = refl
+null_tree (string raw) = refl
+null_tree (empty_array blanks) = refl
+null_tree (array x xs) = refl
+null_tree (empty_object blanks) = refl
+null_tree (object m ms) = refl
+
+-- a JSON value is null where its tree is
+pub null_node : (v : Value) (node bytes : List ℕ) (tree : Json) → v ≡ Node node → v ≡ Node bytes → Spells bytes tree → is_null_kind (kind_at node) ≡ is_null_tree tree
+null_node v node bytes tree n e x =
+    let same : node ≡ bytes = cc in
+    ap (λ b. is_null_kind (kind_at b)) same ∙ ap is_null_kind (at_tree bytes tree x) ∙ null_tree tree

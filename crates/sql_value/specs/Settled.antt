@@ -1,5 +1,5 @@
 -- Settling: what a value is to an operator that takes it as an operand.
-use Rattle.std.specs.Prelude.{◌-◌, ℕ, List, length, slice_range, Option, None, Some, Ok, Err}
+use Rattle.std.specs.Prelude.{◌-◌, ℕ, Bool, true, false, List, length, slice_range, Option, None, Some, Ok, Err}
 use Rattle.std.specs.Str.{chars}
 use Rattle.text_view.specs.JsonString.{unescaped_text}
 use Rattle.json_text.specs.Grammar.{Json, null, truth, number as number_token, string, empty_array, array, empty_object, object}
@@ -72,3 +72,36 @@ judged (Bad fault) = Err fault
 -- a settled value, or the fault of a Bad one
 unfoldable pub settled : Value → Outcome
 settled v = judged (plain_value v)
+
+-- ---- IS NULL and IS MISSING, which look at values that aren't settled
+
+abbrev pub is_null_kind : Kind → Bool
+is_null_kind kind.Null = true
+is_null_kind (kind.Bool b) = false
+is_null_kind kind.Number = false
+is_null_kind kind.Text = false
+is_null_kind kind.Array = false
+is_null_kind kind.Object = false
+
+-- NULL, MISSING or a JSON null; a Bad value is none
+unfoldable pub is_null_value : Value → Bool
+is_null_value Missing = true
+is_null_value Null = true
+is_null_value (Node bytes) = is_null_kind (kind_at bytes)
+is_null_value _ = false
+
+-- the same of a JSON value, by its tree
+abbrev pub is_null_tree : Json → Bool
+is_null_tree null = true
+is_null_tree (truth b) = false
+is_null_tree (number_token n) = false
+is_null_tree (string raw) = false
+is_null_tree (empty_array blanks) = false
+is_null_tree (array e es) = false
+is_null_tree (empty_object blanks) = false
+is_null_tree (object m ms) = false
+
+-- MISSING
+unfoldable pub is_missing_value : Value → Bool
+is_missing_value Missing = true
+is_missing_value _ = false

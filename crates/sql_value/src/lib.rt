@@ -4,6 +4,7 @@
 mod arithmetic;
 mod casting;
 mod comparing;
+mod nulls;
 mod numbers;
 mod operation;
 mod settling;
@@ -13,6 +14,7 @@ mod value;
 pub use crate::arithmetic::{arith, arith_into};
 pub use crate::casting::{cast, cast_into};
 pub use crate::comparing::{Order, compare};
+pub use crate::nulls::{is_missing, is_null};
 pub use crate::operation::Arith;
 pub use crate::settling::{settle, settle_in_place};
 pub use crate::target::Target;

@@ -76,7 +76,7 @@ fn number_value<'r>(number: &Num) -> Value<'r>
 }
 
 /// The node's kind, as its bytes tell it.
-fn kind_of(node: &JsonNode<'_>) -> Kind
+pub(crate) fn kind_of(node: &JsonNode<'_>) -> Kind
     ensures { result ≡ kind_at node.now }
 {
     let _token = node.token();
