@@ -1,6 +1,7 @@
 -- What the operands of a function are judged to be. They are judged from the left, and the first fault
 -- counts; without one, an operand that is NULL or MISSING gives NULL.
 use Rattle.std.specs.Prelude.{◌≡◌, ℕ, ℤ, pos, int_lt, List, Option, None, Some, Result, Ok, Err, if◌then◌else◌}
+use Rattle.std.specs.Borrow.{Bor}
 use Rattle.sql_decimal.specs.Reading.{number_of, int_of}
 use Rattle.sql_timestamp.specs.Instants.{Timestamp}
 use Rattle.sql_timestamp.specs.Reading.{spelled_timestamp}

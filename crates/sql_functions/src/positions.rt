@@ -1,5 +1,5 @@
 //! The positions of a text's characters, from 1.
-ghost use Rattle.std.specs.Prelude.{◌≡◌, ◌-◌, max, pos, ◌≤ℤ◌, ◌+ℤ◌};
+ghost use Rattle.std.specs.Prelude.{◌≡◌, ◌-◌, max, ◌+ℤ◌};
 ghost use Rattle.sql_functions.specs.Positions.{least};
 
 /// How many characters stand before the position `start`.
@@ -16,9 +16,11 @@ pub(crate) fn characters_before(start: i64) -> u64
 /// How many positions there are from `start` on and from 1 on, of `count` from `start` on.
 #[inline]
 pub(crate) fn positions_within(start: i64, count: i64) -> u64
-    requires { pos 0 ≤ℤ count }
     ensures { result ≡ least (start +ℤ count) - max (least start) 1 }
 {
+    if count <= 0 {
+        return 0;
+    }
     if start >= 1 {
         return count as u64;
     }

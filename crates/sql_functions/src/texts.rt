@@ -1,6 +1,5 @@
 //! Functions of texts.
-ghost use Rattle.std.specs.Prelude.{◌≡◌, ◌↔◌, ℕ, List, Some, Ok, true, ◌≤ℤ◌, pos};
-ghost use Rattle.text_view.specs.LikePattern.{Matches};
+ghost use Rattle.std.specs.Prelude.{◌≡◌, [], ◌∷◌};
 ghost use Rattle.text_view.specs.Finding.{like as like_test};
 ghost use Rattle.text_view.specs.Trimmed.{trimmed};
 ghost use Rattle.sql_value.specs.Outcomes.{Wrote};
@@ -144,7 +143,6 @@ pub fn substring_into<'r>(
 
 #[tactic(auto, using(crate::proofs::Kept::kept_positions))]
 fn text_at<'r>(text: &ValueText<'r>, start: i64, count: i64) -> ValueText<'r>
-    requires { pos 0 ≤ℤ count }
     ensures { result ≡ positions_from start count text.now }
 {
     text.sub(characters_before(start), positions_within(start, count))
@@ -158,11 +156,18 @@ pub fn trim_into<'r>(side: Side, text: &Value<'r>, out: &mut Value<'r>) -> Optio
     match judge_text(text) {
         Operand::Null => write_null(out),
         Operand::There(text) => {
-            *out = Value::Text(text.trim(side, &Text::plain(" ")));
+            *out = Value::Text(without_spaces(side, text));
             None
         }
         Operand::Fault(fault) => Some(fault),
     }
+}
+
+#[tactic(auto, using(crate::proofs::Liked::space_chars))]
+fn without_spaces<'r>(side: Side, text: &ValueText<'r>) -> ValueText<'r>
+    ensures { result ≡ trimmed side (32 ∷ []) text.now }
+{
+    text.trim(side, &Text::plain(" "))
 }
 
 /// TRIM: a text without the characters of a set at the side, written to `out`.
