@@ -1,5 +1,5 @@
 -- The characters at positions are a part of the text.
-use Rattle.std.proofs.Common.{◌≡◌, ℕ, zero, suc, ◌+◌, ◌-◌, ◌≤◌, ◌<◌, max, ℤ, pos, negsuc, ◌+ℤ◌, Bool, true, false, nat_lt, List, [], ◌∷◌, length, take, drop, refl, ap, sym, ◌∙◌, ◌⊎◌, inl, inr, arith}
+use Rattle.std.proofs.Common.{◌≡◌, ℕ, zero, suc, ◌-◌, ◌≤◌, ◌<◌, max, ℤ, pos, negsuc, ◌+ℤ◌, Bool, true, false, nat_lt, List, [], ◌∷◌, length, take, drop, refl, ap, sym, ◌∙◌, ◌⊎◌, inl, inr, arith}
 use Rattle.std.specs.Prelude.{int_le, int_lt, nat_le, ◌&&◌}
 use Rattle.std.proofs.Math.Seq.{drop-nil, take-nil}
 use Rattle.std.proofs.lemmas.Bool.Decides.{nat_tests, leb_tells}
@@ -33,8 +33,9 @@ none_passed a p l h = ap (λ n. drop n l) (let e : a - p ≡ 0 = omega arith in 
 kept_below : (a p : ℕ) (text : List ℕ) → kept_at (λ q. nat_le a q) p text ≡ drop (a - p) text
 kept_below a p [] = sym (drop-nil (a - p))
 kept_below a p (c ∷ cs) = elim (leb_tells a p) [
-    inl h ↦ rw (h.0, kept_below a (suc p) cs) (ap (λ l. c ∷ l) (none_passed a (suc p) cs (omega (arith, h.1))) ∙ sym (none_passed a p (c ∷ cs) h.1))
-  | inr h ↦ rw (h.0, kept_below a (suc p) cs) (sym (passed a p c cs h.1)) ]
+  | inl h ↦ rw (h.0, kept_below a (suc p) cs) (ap (λ l. c ∷ l) (none_passed a (suc p) cs (omega (arith, h.1))) ∙ sym (none_passed a p (c ∷ cs) h.1))
+  | inr h ↦ rw (h.0, kept_below a (suc p) cs) (sym (passed a p c cs h.1))
+]
 
 at_least : (s : ℤ) (q : ℕ) → int_le s (pos q) ≡ nat_le (least s) q
 at_least (pos n) q = refl

@@ -1,5 +1,5 @@
 -- Truth values: conditions, NOT, equality, and the sign of a number.
-use Rattle.std.specs.Prelude.{ℤ, pos, Bool, true, false, not, Option, None, Some, Result, Ok, Err}
+use Rattle.std.specs.Prelude.{pos, Bool, true, false, not, Option, None, Some, Result, Ok, Err}
 use Rattle.sql_timestamp.specs.declared.fault.ValueFault.{ValueFault}
 use Rattle.sql_timestamp.specs.declared.fault.ValueFault.TheVariants.{InvalidOperands}
 use Rattle.sql_value.specs.declared.value.Value.{Value}

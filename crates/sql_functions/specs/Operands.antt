@@ -1,11 +1,10 @@
 -- What the operands of a function are judged to be. They are judged from the left, and the first fault
 -- counts; without one, an operand that is NULL or MISSING gives NULL.
-use Rattle.std.specs.Prelude.{◌≡◌, ℕ, ℤ, pos, int_lt, List, Option, None, Some, Result, Ok, Err, if◌then◌else◌}
+use Rattle.std.specs.Prelude.{◌≡◌, ℕ, ℤ, pos, int_lt, List, Option, None, Some, Ok, Err, if◌then◌else◌}
 use Rattle.std.specs.Borrow.{Bor}
 use Rattle.sql_decimal.specs.Reading.{number_of, int_of}
 use Rattle.sql_timestamp.specs.Instants.{Timestamp}
 use Rattle.sql_timestamp.specs.Reading.{spelled_timestamp}
-use Rattle.sql_timestamp.specs.declared.fault.ValueFault.{ValueFault}
 use Rattle.sql_timestamp.specs.declared.fault.ValueFault.TheVariants.{CastFailed, InvalidOperands}
 use Rattle.sql_value.specs.declared.value.Value.{Value}
 use Rattle.sql_value.specs.declared.value.Value.TheVariants as value

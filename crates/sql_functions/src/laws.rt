@@ -8,5 +8,4 @@ ghost use Rattle.text_view.specs.declared.like.Part.{Part};
 /// its part.
 pub fn like_is_matching()
     ensures { (parts : List Part) (text : List ℕ) → (like parts text ≡ true) ↔ Matches parts text }
-{
-}
+{}

@@ -41,10 +41,7 @@ pub fn date_add_into<'r>(
     }
 }
 
-fn write_stamp<'r>(
-    answer: Result<Stamp, ValueFault>,
-    out: &mut Value<'r>,
-) -> Option<ValueFault>
+fn write_stamp<'r>(answer: Result<Stamp, ValueFault>, out: &mut Value<'r>) -> Option<ValueFault>
     ensures { Wrote (stamp_outcome answer) result out.old out.new }
 {
     match answer {
