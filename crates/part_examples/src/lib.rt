@@ -16,3 +16,5 @@ mod thrift;
 mod tokens;
 #[cfg(test)]
 mod value_texts;
+#[cfg(test)]
+mod values;
