@@ -1,5 +1,5 @@
 -- The two words of an instant: whole seconds, rounded down, and the nanoseconds of a second.
-use Rattle.std.specs.Prelude.{◌≡◌, ℕ, zero, suc, ◌+◌, ◌-◌, ◌*◌, ◌<◌, ◌≤◌, ℤ, pos, negsuc, ◌+ℤ◌, ◌*ℤ◌, unsigned_abs}
+use Rattle.std.specs.Prelude.{◌≡◌, ℕ, zero, suc, ◌+◌, ◌-◌, ◌*◌, ◌<◌, ◌≤◌, ℤ, pos, negsuc, ◌+ℤ◌, ◌*ℤ◌, ◌≤ℤ◌, unsigned_abs}
 use Rattle.std.specs.Int.{int_div_euclid, int_rem_euclid}
 use Rattle.std.proofs.Common.{arith}
 use Rattle.jiff_core.proofs.SignedLemmas.{signed_arith}
@@ -14,3 +14,10 @@ seconds_back s n h = omega (arith, signed_arith)
 
 pub nanos_back : (s : ℤ) (n : ℕ) → n < second_nanos → unsigned_abs (int_rem_euclid (joined s n) (pos second_nanos)) ≡ n
 nanos_back s n h = omega (arith, signed_arith)
+
+-- the offset is below a day, and its clock shows a year from 1 to 9999 at that second
+pub record ShowsYear (seconds offset : ℤ) : Type 0 where
+  pub offset_low : negsuc 1_438 ≤ℤ offset
+  pub offset_high : offset ≤ℤ pos 1_439
+  pub local_low : negsuc 62_135_596_799 ≤ℤ (seconds +ℤ offset *ℤ pos 60)
+  pub local_high : (seconds +ℤ offset *ℤ pos 60) ≤ℤ pos 253_402_300_799

@@ -1,6 +1,9 @@
 //! The timestamp.
-ghost use Rattle.std.specs.Prelude.{◌≡◌, ◌<◌, ◌≤◌, ℤ, pos, ◌≤ℤ◌, IsTrue};
+ghost use Rattle.std.specs.Prelude.{◌≡◌, ◌<◌, ◌≤◌, ℤ, pos, negsuc, ◌≤ℤ◌, unsigned_abs, true, ◌^◌, IfSome, IfNone, IsTrue, ◌↔◌};
+ghost use Rattle.std.specs.Int.{int_div_euclid, int_rem_euclid};
 ghost use Rattle.std.specs.Ordering.{int_cmp};
+ghost use Rattle.sql_timestamp.specs.Instants.{made, second_nanos};
+ghost use Rattle.sql_timestamp.specs.Words.{joined, ShowsYear};
 
 use std::cmp::Ordering;
 use std::marker::Model;
@@ -19,7 +22,7 @@ pub struct Stamp {
 }
 
 impl Model for Stamp {
-    ghost use Rattle.std.specs.Prelude.{◌<◌, pos, unsigned_abs, IsTrue};
+    ghost use Rattle.std.specs.Prelude.{◌≡◌, ◌<◌, pos, true, unsigned_abs};
     ghost use Rattle.std.specs.Int.{int_div_euclid, int_rem_euclid};
     ghost use Rattle.sql_timestamp.specs.Instants.{Timestamp, timestamp_of, is_timestamp, second_nanos};
     ghost use Rattle.sql_timestamp.specs.Words.{joined, seconds_back, nanos_back};
@@ -28,7 +31,7 @@ impl Model for Stamp {
 
     ghost view = { λ s. timestamp_of (joined s.seconds s.nanoseconds) s.offset };
 
-    ghost invariant = { λ s. (s.nanoseconds < second_nanos) × IsTrue (is_timestamp (timestamp_of (joined s.seconds s.nanoseconds) s.offset)) };
+    ghost invariant = { λ s. (s.nanoseconds < second_nanos) × (is_timestamp (timestamp_of (joined s.seconds s.nanoseconds) s.offset) ≡ true) };
 
     ghost inverse = { λ t. record {
       seconds = int_div_euclid t.instant (pos second_nanos);
@@ -43,17 +46,85 @@ impl Model for Stamp {
     } };
 }
 
-impl Stamp {
-    ghost use Rattle.sql_timestamp.specs.Instants.{made, is_timestamp};
+/// The seconds from 1970-01-01T00:00:00 to the start of the year 1, on one clock.
+const FIRST_SECOND: i64 = -62_135_596_800;
 
+/// The seconds to the last one of the year 9999.
+const LAST_SECOND: i64 = 253_402_300_799;
+
+/// The greatest offset in minutes.
+const LONGEST_OFFSET: i16 = 1_439;
+
+/// The whole seconds of an instant, rounded down, and the nanoseconds left.
+#[derive(Drop)]
+struct Split {
+    seconds: i64,
+    nanoseconds: u32,
+}
+
+/// No timestamp is so many nanoseconds from 1970.
+const TOO_FAR: i128 = 1_000_000_000_000_000_000_000;
+
+/// The words of an instant, or None where it is too far from 1970 for a timestamp.
+fn words_of(instant: i128) -> Option<Split>
+    ensures value { IfSome result (λ w. joined w.seconds w.nanoseconds ≡ instant) }
+    ensures nanoseconds { IfSome result (λ w. w.nanoseconds < second_nanos) }
+    ensures far { IfNone result (10 ^ 21 < unsigned_abs instant) }
+{
+    if let Ok(short) = i64::try_from(instant) {
+        return Some(Split {
+            seconds: short.div_euclid(1_000_000_000),
+            nanoseconds: short.rem_euclid(1_000_000_000) as u32,
+        });
+    }
+    if instant < -TOO_FAR || instant > TOO_FAR {
+        return None;
+    }
+    Some(Split {
+        seconds: instant.div_euclid(1_000_000_000) as i64,
+        nanoseconds: instant.rem_euclid(1_000_000_000) as u32,
+    })
+}
+
+/// Whether the offset is below a day, and its clock shows a year from 1 to 9999 at that second.
+fn shows_year(seconds: i64, offset: i16) -> bool
+    ensures { IsTrue result ↔ ShowsYear seconds offset }
+{
+    if offset < -LONGEST_OFFSET || offset > LONGEST_OFFSET {
+        return false;
+    }
+    let ahead = i64::from(offset) * 60;
+    if seconds < FIRST_SECOND - ahead || seconds > LAST_SECOND - ahead {
+        return false;
+    }
+    true
+}
+
+impl Stamp {
     /// The timestamp of an instant, in nanoseconds since 1970-01-01T00:00:00Z, and an offset in
     /// minutes. None where the offset is a day or more, or where its clock shows no year from 1 to 9999.
     pub fn make(instant: i128, offset: i16) -> Option<Stamp>
         ensures { result ≡ made instant offset }
     {
-        let seconds = instant.div_euclid(1_000_000_000) as i64;
-        let nanoseconds = instant.rem_euclid(1_000_000_000) as u32;
-        Some(Stamp { seconds, nanoseconds, offset })
+        let Some(split) = words_of(instant) else {
+            return None;
+        };
+        Stamp::of(split.seconds, split.nanoseconds, offset)
+    }
+
+    /// The timestamp of so many seconds and nanoseconds.
+    pub(crate) fn of(seconds: i64, nanoseconds: u32, offset: i16) -> Option<Stamp>
+        requires { nanoseconds < second_nanos }
+        ensures { result ≡ made (joined seconds nanoseconds) offset }
+    {
+        if !shows_year(seconds, offset) {
+            return None;
+        }
+        Some(Stamp {
+            seconds,
+            nanoseconds,
+            offset,
+        })
     }
 
     /// The nanoseconds since 1970-01-01T00:00:00Z.
@@ -74,6 +145,8 @@ impl Stamp {
     pub fn compare(&self, other: &Stamp) -> Ordering
         ensures { result ≡ int_cmp self.now.instant other.now.instant }
     {
-        self.seconds.cmp(&other.seconds).then(self.nanoseconds.cmp(&other.nanoseconds))
+        self.seconds
+            .cmp(&other.seconds)
+            .then(self.nanoseconds.cmp(&other.nanoseconds))
     }
 }

@@ -1,0 +1,130 @@
+-- Which instants and offsets are timestamps, as bounds on numbers.
+use Rattle.std.proofs.Common.{◌≡◌, ℕ, ◌+◌, ◌-◌, ◌*◌, ◌/◌, ◌%◌, ◌<◌, ◌≤◌, ◌^◌, Bool, true, false, ◌&&◌, Some, None, refl, sym, ap, ◌∙◌, arith, ℤ, pos, negsuc, neg_ℤ, ◌+ℤ◌, ◌-ℤ◌, ◌*ℤ◌, ◌<ℤ◌, ◌≤ℤ◌, unsigned_abs, to_z, of_z, to_z-of_z, FitsSigned}
+use Rattle.std.specs.Prelude.{int_le}
+use Rattle.std.specs.Int.{Width, int_div_euclid, int_rem_euclid}
+use Rattle.std.specs.Ordering.{int_cmp, nat_cmp, ordering_then}
+use Rattle.std.proofs.lemmas.Bool.{and_parts, and_from}
+use Rattle.jiff_core.proofs.SignedLemmas.{signed_arith, one_part}
+use Rattle.sql_timestamp.specs.Instants.{Timestamp, timestamp_of, local_nanos, local_day, time_of_day, is_day, is_offset, is_timestamp, made, second_nanos, minute_nanos, day_nanos}
+use Rattle.sql_timestamp.specs.Words.{joined, ShowsYear}
+use Rattle.sql_timestamp.proofs.Dates.{at_most_true, day_between, is_day-between}
+
+-- a timestamp's offset, and what its clock shows
+pub record Within (t : Timestamp) : Type 0 where
+  pub offset_low : negsuc 1_438 ≤ℤ t.offset
+  pub offset_high : t.offset ≤ℤ pos 1_439
+  pub local_low : negsuc 62_135_596_799_999_999_999 ≤ℤ local_nanos t
+  pub local_high : local_nanos t <ℤ pos 253_402_300_800_000_000_000
+
+read_at_most : (a b : ℤ) → int_le a b ≡ true → a ≤ℤ b
+read_at_most a b h = omega (arith, signed_arith)
+
+-- the day that a clock shows
+abbrev day_at : ℤ → ℤ
+day_at local = int_div_euclid local (pos day_nanos)
+
+day_low : (local : ℤ) → negsuc 719_161 ≤ℤ day_at local → negsuc 62_135_596_799_999_999_999 ≤ℤ local
+day_low local h = omega (arith, signed_arith)
+
+day_high : (local : ℤ) → day_at local ≤ℤ pos 2_932_896 → local <ℤ pos 253_402_300_800_000_000_000
+day_high local h = omega (arith, signed_arith)
+
+low_day : (local : ℤ) → negsuc 62_135_596_799_999_999_999 ≤ℤ local → negsuc 719_161 ≤ℤ day_at local
+low_day local h = omega (arith, signed_arith)
+
+high_day : (local : ℤ) → local <ℤ pos 253_402_300_800_000_000_000 → day_at local ≤ℤ pos 2_932_896
+high_day local h = omega (arith, signed_arith)
+
+pub within : (t : Timestamp) → is_timestamp t ≡ true → Within t
+unfolding is_timestamp local_day
+within t h =
+    let two = and_parts (is_offset t.offset) (is_day (local_day t)) h in
+    let ends = and_parts (int_le (negsuc 1_438) t.offset) (int_le t.offset (pos 1_439)) two.0 in
+    let day = day_between (local_day t) two.1 in
+    record {
+      offset_low = read_at_most (negsuc 1_438) t.offset ends.0;
+      offset_high = read_at_most t.offset (pos 1_439) ends.1;
+      local_low = day_low (local_nanos t) day.0;
+      local_high = day_high (local_nanos t) day.1;
+    }
+
+pub is_within : (t : Timestamp) → Within t → is_timestamp t ≡ true
+unfolding is_timestamp local_day
+is_within t w =
+    and_from (is_offset t.offset) (is_day (local_day t))
+    (and_from (int_le (negsuc 1_438) t.offset) (int_le t.offset (pos 1_439)) (at_most_true _ _ w.offset_low) (at_most_true _ _ w.offset_high))
+    (is_day-between (local_day t) (low_day (local_nanos t) w.local_low) (high_day (local_nanos t) w.local_high))
+
+pub day_is : (t : Timestamp) → is_timestamp t ≡ true → is_day (local_day t) ≡ true
+unfolding is_timestamp
+day_is t h = (and_parts (is_offset t.offset) (is_day (local_day t)) h).1
+
+made_by : (i o : ℤ) (b : Bool) → is_timestamp (timestamp_of i o) ≡ b → (Within (timestamp_of i o) → ⊥) → made i o ≡ None
+unfolding made
+made_by i o true e h = absurd (h (within (timestamp_of i o) e))
+made_by i o false e h = rw e refl
+
+-- no timestamp
+pub made_none : (i o : ℤ) → (Within (timestamp_of i o) → ⊥) → made i o ≡ None
+made_none i o h = made_by i o (is_timestamp (timestamp_of i o)) refl h
+
+-- a timestamp
+pub made_some : (i o : ℤ) → is_timestamp (timestamp_of i o) ≡ true → made i o ≡ Some (timestamp_of i o)
+unfolding made
+made_some i o h = rw h refl
+
+-- the order of two instants from their words
+pub joined_order : (s t : ℤ) (m n : ℕ) → m < second_nanos → n < second_nanos → ordering_then (int_cmp s t) (nat_cmp m n) ≡ int_cmp (joined s m) (joined t n)
+joined_order s t m n h k = grind (arith, signed_arith)
+
+-- ---- the same of an instant in two words
+
+pub shows_within : (s o : ℤ) (n : ℕ) → n < second_nanos → ShowsYear s o → Within (timestamp_of (joined s n) o)
+shows_within s o n h y =
+    let a = y.local_low in
+    let b = y.local_high in
+    record {
+      offset_low = y.offset_low;
+      offset_high = y.offset_high;
+      local_low = omega (arith, signed_arith);
+      local_high = omega (arith, signed_arith);
+    }
+
+pub within_shows : (s o : ℤ) (n : ℕ) → n < second_nanos → Within (timestamp_of (joined s n) o) → ShowsYear s o
+within_shows s o n h w =
+    let a : negsuc 62_135_596_799_999_999_999 ≤ℤ (s *ℤ pos second_nanos +ℤ pos n +ℤ o *ℤ pos minute_nanos) = w.local_low in
+    let b : (s *ℤ pos second_nanos +ℤ pos n +ℤ o *ℤ pos minute_nanos) <ℤ pos 253_402_300_800_000_000_000 = w.local_high in
+    record {
+      offset_low = w.offset_low;
+      offset_high = w.offset_high;
+      local_low = omega (arith, signed_arith);
+      local_high = omega (arith, signed_arith);
+    }
+
+-- what is passed on of a signed number is the number
+pub kept : (w : Width) (z : ℤ) → FitsSigned w z → to_z w (of_z w z) ≡ z
+kept w z f = to_z-of_z f
+
+-- an instant too far from 1970
+pub far_none : (i i' o : ℤ) → i' ≡ i → 10 ^ 21 < unsigned_abs i' → made i o ≡ None
+far_none i i' o e h =
+    let far : 10 ^ 21 < unsigned_abs i = rw e at h in
+    made_none i o (λ w. too_far i o far w.offset_low w.offset_high w.local_low w.local_high)
+  where
+    too_far : (i o : ℤ) → 10 ^ 21 < unsigned_abs i → negsuc 1_438 ≤ℤ o → o ≤ℤ pos 1_439
+        → negsuc 62_135_596_799_999_999_999 ≤ℤ (i +ℤ o *ℤ pos minute_nanos) → (i +ℤ o *ℤ pos minute_nanos) <ℤ pos 253_402_300_800_000_000_000 → ⊥
+    too_far i o far a b c d = omega (arith, signed_arith, one_part)
+
+-- the timestamp of two words that are passed on
+pub made_kept : (s s' o o' : ℤ) (n : ℕ) → s' ≡ s → o' ≡ o → n < second_nanos → ShowsYear s' o' → Some (timestamp_of (joined s' n) o') ≡ made (joined s n) o
+made_kept s s' o o' n e f h shows =
+    let same : made (joined s' n) o' ≡ made (joined s n) o = rw (e, f) refl in
+    sym (made_some (joined s' n) o' (is_within (timestamp_of (joined s' n) o') (shows_within s' o' n h shows))) ∙ same
+
+pub made_lost : (s s' o o' : ℤ) (n : ℕ) → s' ≡ s → o' ≡ o → n < second_nanos → (ShowsYear s' o' → false ≡ true) → None ≡ made (joined s n) o
+made_lost s s' o o' n e f h lost =
+    let same : made (joined s' n) o' ≡ made (joined s n) o = rw (e, f) refl in
+    sym (made_none (joined s' n) o' (λ w. not_both (lost (within_shows s' o' n h w)))) ∙ same
+  where
+    not_both : false ≡ true → ⊥
+    not_both e = cc
