@@ -1,11 +1,11 @@
 -- Which instants and offsets are timestamps, as bounds on numbers.
-use Rattle.std.proofs.Common.{◌≡◌, ℕ, ◌+◌, ◌-◌, ◌*◌, ◌/◌, ◌%◌, ◌<◌, ◌≤◌, ◌^◌, Bool, true, false, ◌&&◌, Some, None, refl, sym, ap, ◌∙◌, arith, ℤ, pos, negsuc, neg_ℤ, ◌+ℤ◌, ◌-ℤ◌, ◌*ℤ◌, ◌<ℤ◌, ◌≤ℤ◌, unsigned_abs, to_z, of_z, to_z-of_z, FitsSigned}
+use Rattle.std.proofs.Common.{◌≡◌, ℕ, ◌+◌, ◌-◌, ◌*◌, ◌/◌, ◌%◌, ◌<◌, ◌≤◌, ◌^◌, Bool, true, false, ◌&&◌, Some, None, refl, sym, ap, ◌∙◌, arith, ℤ, pos, negsuc, neg_ℤ, ◌+ℤ◌, ◌-ℤ◌, ◌*ℤ◌, ◌<ℤ◌, ◌≤ℤ◌, unsigned_abs, to_z, of_z, to_z-of_z, FitsSigned, w64}
 use Rattle.std.specs.Prelude.{int_le}
 use Rattle.std.specs.Int.{Width, int_div_euclid, int_rem_euclid}
 use Rattle.std.specs.Ordering.{int_cmp, nat_cmp, ordering_then}
 use Rattle.std.proofs.lemmas.Bool.{and_parts, and_from}
 use Rattle.jiff_core.proofs.SignedLemmas.{signed_arith, one_part}
-use Rattle.sql_timestamp.specs.Instants.{Timestamp, timestamp_of, local_nanos, local_day, time_of_day, is_day, is_offset, is_timestamp, made, second_nanos, minute_nanos, day_nanos}
+use Rattle.sql_timestamp.specs.Instants.{Timestamp, timestamp_of, at_day, local_nanos, local_day, time_of_day, is_day, is_offset, is_timestamp, made, second_nanos, minute_nanos, day_nanos}
 use Rattle.sql_timestamp.specs.Words.{joined, ShowsYear}
 use Rattle.sql_timestamp.proofs.Dates.{at_most_true, day_between, is_day-between}
 
@@ -128,3 +128,75 @@ made_lost s s' o o' n e f h lost =
   where
     not_both : false ≡ true → ⊥
     not_both e = cc
+
+-- ---- what a clock shows
+
+pub offset_is : (t : Timestamp) → is_timestamp t ≡ true → is_offset t.offset ≡ true
+unfolding is_timestamp
+offset_is t h = (and_parts (is_offset t.offset) (is_day (local_day t)) h).0
+
+-- an offset below a day
+pub offset_between : (o : ℤ) → is_offset o ≡ true → (negsuc 1_438 ≤ℤ o) × (o ≤ℤ pos 1_439)
+offset_between o h =
+    let ends = and_parts (int_le (negsuc 1_438) o) (int_le o (pos 1_439)) h in
+    (read_at_most (negsuc 1_438) o ends.0, read_at_most o (pos 1_439) ends.1)
+
+day_of_words : (s o l : ℤ) (n : ℕ) → n < second_nanos → l ≡ s +ℤ o *ℤ pos 60 → int_div_euclid l (pos 86_400) ≡ local_day (timestamp_of (joined s n) o)
+unfolding local_day
+day_of_words s o l n h e = omega (arith, signed_arith)
+
+time_of_words : (s o l : ℤ) (n : ℕ) → n < second_nanos → l ≡ s +ℤ o *ℤ pos 60
+    → unsigned_abs (int_rem_euclid l (pos 86_400)) * second_nanos + n ≡ time_of_day (timestamp_of (joined s n) o)
+unfolding time_of_day
+time_of_words s o l n h e = omega (arith, signed_arith)
+
+-- the day that a clock shows at the second l, as it is passed on
+pub day_shown : (s o l r r' : ℤ) (n : ℕ) (t : Timestamp) → n < second_nanos → timestamp_of (joined s n) o ≡ t → l ≡ s +ℤ o *ℤ pos 60
+    → r ≡ int_div_euclid l (pos 86_400) → r' ≡ r → r' ≡ local_day t
+day_shown s o l r r' n t h is e f g = g ∙ f ∙ day_of_words s o l n h e ∙ ap local_day is
+
+pub year_shown : (s o : ℤ) (r : ℤ) (n : ℕ) (t : Timestamp) → n < second_nanos → ShowsYear s o → timestamp_of (joined s n) o ≡ t → r ≡ local_day t → is_day r ≡ true
+year_shown s o r n t h y is e =
+    let sound : is_timestamp t ≡ true = rw is at (is_within (timestamp_of (joined s n) o) (shows_within s o n h y)) in
+    rw e (day_is t sound)
+
+-- and the time of day
+pub time_shown : (s o l r r' : ℤ) (n : ℕ) (t : Timestamp) → n < second_nanos → timestamp_of (joined s n) o ≡ t → l ≡ s +ℤ o *ℤ pos 60
+    → r ≡ int_rem_euclid l (pos 86_400) → r' ≡ r → unsigned_abs r' * second_nanos + n ≡ time_of_day t
+time_shown s o l r r' n t h is e f g =
+    ap (λ z. unsigned_abs z * second_nanos + n) (g ∙ f) ∙ time_of_words s o l n h e ∙ ap time_of_day is
+
+-- the seconds of a clock's time
+pub at_joined : (day s o : ℤ) (second n : ℕ) → s ≡ day *ℤ pos 86_400 +ℤ pos second -ℤ o *ℤ pos 60 → timestamp_of (joined s n) o ≡ at_day day (second * second_nanos + n) o
+at_joined day s o second n e =
+    let same : joined s n ≡ day *ℤ pos day_nanos +ℤ pos (second * second_nanos + n) -ℤ o *ℤ pos minute_nanos = omega (arith, signed_arith) in
+    ap (λ i. timestamp_of i o) same
+
+pub at_shows : (day s o o' : ℤ) (second : ℕ) → is_day day ≡ true → second < 86_400 → is_offset o ≡ true → o' ≡ o
+    → s ≡ day *ℤ pos 86_400 +ℤ pos second -ℤ o *ℤ pos 60 → ShowsYear s o'
+at_shows day s o o' second d h off f e =
+    let ends = offset_between o off in
+    let days = day_between day d in
+    rw f (record {
+      offset_low = ends.0;
+      offset_high = ends.1;
+      local_low = omega (arith, signed_arith);
+      local_high = omega (arith, signed_arith);
+    })
+
+-- ---- seconds later
+
+pub made_moved : (x o' s o k : ℤ) (n : ℕ) (t : Timestamp) → timestamp_of (joined s n) o ≡ t → x ≡ s +ℤ k → o' ≡ o
+    → made (joined x n) o' ≡ made (t.instant +ℤ k *ℤ pos second_nanos) t.offset
+made_moved x o' s o k n t is e f =
+    let same : joined x n ≡ joined s n +ℤ k *ℤ pos second_nanos = omega (arith, signed_arith) in
+    rw (← is, f) (ap (λ i. made i o) same)
+
+pub moved_lost : (s s' o k k' : ℤ) (n : ℕ) (t : Timestamp) → n < second_nanos → ShowsYear s o → timestamp_of (joined s n) o ≡ t → s' ≡ s → k' ≡ k
+    → (FitsSigned w64 (s' +ℤ k') → ⊥) → None ≡ made (t.instant +ℤ k *ℤ pos second_nanos) t.offset
+moved_lost s s' o k k' n t h y is e f lost =
+    let fits : ShowsYear (s +ℤ k) o → FitsSigned w64 (s' +ℤ k') = λ z. near s s' o k k' e f z in
+    sym (made_none (joined (s +ℤ k) n) o (λ w. lost (fits (within_shows (s +ℤ k) o n h w)))) ∙ made_moved (s +ℤ k) o s o k n t is refl refl
+  where
+    near : (s s' o k k' : ℤ) → s' ≡ s → k' ≡ k → ShowsYear (s +ℤ k) o → FitsSigned w64 (s' +ℤ k')
+    near s s' o k k' e f y = omega (arith, signed_arith, y.offset_low, y.offset_high, y.local_low, y.local_high)

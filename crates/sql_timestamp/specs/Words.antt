@@ -9,10 +9,19 @@ use Rattle.sql_timestamp.specs.Instants.{second_nanos}
 abbrev pub joined : ℤ → ℕ → ℤ
 joined seconds nanos = seconds *ℤ pos second_nanos +ℤ pos nanos
 
-pub seconds_back : (s : ℤ) (n : ℕ) → n < second_nanos → int_div_euclid (joined s n) (pos second_nanos) ≡ s
+-- the seconds and the nanoseconds of an instant
+unfoldable pub seconds_of : ℤ → ℤ
+seconds_of instant = int_div_euclid instant (pos second_nanos)
+
+unfoldable pub nanos_of : ℤ → ℕ
+nanos_of instant = unsigned_abs (int_rem_euclid instant (pos second_nanos))
+
+pub seconds_back : (s : ℤ) (n : ℕ) → n < second_nanos → seconds_of (joined s n) ≡ s
+unfolding seconds_of
 seconds_back s n h = omega (arith, signed_arith)
 
-pub nanos_back : (s : ℤ) (n : ℕ) → n < second_nanos → unsigned_abs (int_rem_euclid (joined s n) (pos second_nanos)) ≡ n
+pub nanos_back : (s : ℤ) (n : ℕ) → n < second_nanos → nanos_of (joined s n) ≡ n
+unfolding nanos_of
 nanos_back s n h = omega (arith, signed_arith)
 
 -- the offset is below a day, and its clock shows a year from 1 to 9999 at that second

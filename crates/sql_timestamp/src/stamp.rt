@@ -1,8 +1,7 @@
 //! The timestamp.
-ghost use Rattle.std.specs.Prelude.{◌≡◌, ◌<◌, ◌≤◌, ℤ, pos, negsuc, ◌≤ℤ◌, unsigned_abs, true, ◌^◌, IfSome, IfNone, IsTrue, ◌↔◌};
-ghost use Rattle.std.specs.Int.{int_div_euclid, int_rem_euclid};
+ghost use Rattle.std.specs.Prelude.{◌≡◌, ◌+◌, ◌*◌, ◌<◌, ◌≤◌, ℤ, pos, negsuc, ◌+ℤ◌, ◌-ℤ◌, ◌*ℤ◌, ◌≤ℤ◌, unsigned_abs, true, ◌^◌, IfSome, IfNone, IsTrue, ◌↔◌};
 ghost use Rattle.std.specs.Ordering.{int_cmp};
-ghost use Rattle.sql_timestamp.specs.Instants.{made, second_nanos};
+ghost use Rattle.sql_timestamp.specs.Instants.{made, second_nanos, is_day, is_offset, at_day, local_day, time_of_day};
 ghost use Rattle.sql_timestamp.specs.Words.{joined, ShowsYear};
 
 use std::cmp::Ordering;
@@ -22,20 +21,19 @@ pub struct Stamp {
 }
 
 impl Model for Stamp {
-    ghost use Rattle.std.specs.Prelude.{◌≡◌, ◌<◌, pos, true, unsigned_abs};
-    ghost use Rattle.std.specs.Int.{int_div_euclid, int_rem_euclid};
-    ghost use Rattle.sql_timestamp.specs.Instants.{Timestamp, timestamp_of, is_timestamp, second_nanos};
-    ghost use Rattle.sql_timestamp.specs.Words.{joined, seconds_back, nanos_back};
+    ghost use Rattle.std.specs.Prelude.{◌<◌};
+    ghost use Rattle.sql_timestamp.specs.Instants.{Timestamp, timestamp_of, second_nanos};
+    ghost use Rattle.sql_timestamp.specs.Words.{joined, ShowsYear, seconds_of, nanos_of, seconds_back, nanos_back};
 
     ghost Value = { Timestamp };
 
     ghost view = { λ s. timestamp_of (joined s.seconds s.nanoseconds) s.offset };
 
-    ghost invariant = { λ s. (s.nanoseconds < second_nanos) × (is_timestamp (timestamp_of (joined s.seconds s.nanoseconds) s.offset) ≡ true) };
+    ghost invariant = { λ s. (s.nanoseconds < second_nanos) × ShowsYear s.seconds s.offset };
 
     ghost inverse = { λ t. record {
-      seconds = int_div_euclid t.instant (pos second_nanos);
-      nanoseconds = unsigned_abs (int_rem_euclid t.instant (pos second_nanos));
+      seconds = seconds_of t.instant;
+      nanoseconds = nanos_of t.instant;
       offset = t.offset;
     } };
 
@@ -44,6 +42,15 @@ impl Model for Stamp {
       nanoseconds = nanos_back s.seconds s.nanoseconds h.0 i;
       offset = s.offset;
     } };
+}
+
+/// A day, in days since 1970-01-01, and a time of day.
+#[derive(Drop)]
+pub(crate) struct Shown {
+    pub(crate) day: i64,
+    /// Seconds since midnight.
+    pub(crate) second: u32,
+    pub(crate) nanosecond: u32,
 }
 
 /// The seconds from 1970-01-01T00:00:00 to the start of the year 1, on one clock.
@@ -100,6 +107,17 @@ fn shows_year(seconds: i64, offset: i16) -> bool
     true
 }
 
+/// The second since 1970-01-01T00:00:00Z at which a clock of that offset shows the second of the day.
+#[inline(always)]
+fn second_at(day: i64, second: u32, offset: i16) -> i64
+    requires day { is_day day ≡ true }
+    requires second { second < 86_400 }
+    requires offset { is_offset offset ≡ true }
+    ensures { result ≡ day *ℤ pos 86_400 +ℤ pos second -ℤ offset *ℤ pos 60 }
+{
+    day * 86_400 + i64::from(second) - i64::from(offset) * 60
+}
+
 impl Stamp {
     /// The timestamp of an instant, in nanoseconds since 1970-01-01T00:00:00Z, and an offset in
     /// minutes. None where the offset is a day or more, or where its clock shows no year from 1 to 9999.
@@ -125,6 +143,48 @@ impl Stamp {
             nanoseconds,
             offset,
         })
+    }
+
+    /// The timestamp at which a clock of that offset shows the second of the day and its nanosecond.
+    pub(crate) fn at(day: i64, second: u32, nanosecond: u32, offset: i16) -> Stamp
+        requires day { is_day day ≡ true }
+        requires second { second < 86_400 }
+        requires nanosecond { nanosecond < second_nanos }
+        requires offset { is_offset offset ≡ true }
+        ensures { result ≡ at_day day (second * second_nanos + nanosecond) offset }
+    {
+        Stamp {
+            seconds: second_at(day, second, offset),
+            nanoseconds: nanosecond,
+            offset,
+        }
+    }
+
+    /// The day and the time of day that the clock shows.
+    pub(crate) fn shown(&self) -> Shown
+        ensures day { result.day ≡ local_day self.now }
+        ensures time { result.second * second_nanos + result.nanosecond ≡ time_of_day self.now }
+        ensures second { result.second < 86_400 }
+        ensures nanosecond { result.nanosecond < second_nanos }
+        ensures year { is_day result.day ≡ true }
+        ensures offset { is_offset self.now.offset ≡ true }
+    {
+        let local = self.seconds + i64::from(self.offset) * 60;
+        Shown {
+            day: local.div_euclid(86_400),
+            second: local.rem_euclid(86_400) as u32,
+            nanosecond: self.nanoseconds,
+        }
+    }
+
+    /// The timestamp so many seconds later, or None where that is none.
+    pub(crate) fn seconds_later(&self, n: i64) -> Option<Stamp>
+        ensures { result ≡ made (self.now.instant +ℤ n *ℤ pos second_nanos) self.now.offset }
+    {
+        let Some(seconds) = self.seconds.checked_add(n) else {
+            return None;
+        };
+        Stamp::of(seconds, self.nanoseconds, self.offset)
     }
 
     /// The nanoseconds since 1970-01-01T00:00:00Z.

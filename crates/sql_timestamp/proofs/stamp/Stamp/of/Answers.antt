@@ -1,14 +1,10 @@
 use Rattle.std.proofs.Common.{w16, w64, refl}
-use Rattle.sql_timestamp.specs.Instants.{timestamp_of}
-use Rattle.sql_timestamp.proofs.Ranges.{is_within, shows_within, kept, made_kept, made_lost}
+use Rattle.sql_timestamp.proofs.Ranges.{kept, made_kept, made_lost}
 use Rattle.sql_timestamp.proofs.stamp.Stamp.of.Goals as goal
 
 pub returns-then-not-shows_year : goal.returns-then-not-shows_year
 returns-then-not-shows_year c =
     made_lost c.args.seconds _ c.args.offset _ c.args.nanoseconds (kept w64 c.args.seconds c.ranges.seconds) (kept w16 c.args.offset c.ranges.offset) c.requires c.if-not-shows_year.ensures.1
-
-pub invariant_of-result : goal.invariant_of-result
-invariant_of-result c = (c.requires, is_within _ (shows_within _ _ c.args.nanoseconds c.requires (c.if-not-shows_year.ensures.0 refl)))
 
 pub returns : goal.returns
 returns c =
