@@ -1,12 +1,12 @@
 -- Which instants and offsets are timestamps, as bounds on numbers.
-use Rattle.std.proofs.Common.{◌≡◌, ℕ, ◌+◌, ◌-◌, ◌*◌, ◌/◌, ◌%◌, ◌<◌, ◌≤◌, ◌^◌, Bool, true, false, ◌&&◌, Some, None, refl, sym, ap, ◌∙◌, arith, ℤ, pos, negsuc, neg_ℤ, ◌+ℤ◌, ◌-ℤ◌, ◌*ℤ◌, ◌<ℤ◌, ◌≤ℤ◌, unsigned_abs, to_z, of_z, to_z-of_z, FitsSigned, w64}
+use Rattle.std.proofs.Common.{◌≡◌, ℕ, ◌+◌, ◌-◌, ◌*◌, ◌/◌, ◌%◌, ◌<◌, ◌≤◌, ◌^◌, Bool, true, false, ◌&&◌, ◌==◌, Some, None, refl, sym, ap, ◌∙◌, arith, ℤ, pos, negsuc, neg_ℤ, ◌+ℤ◌, ◌-ℤ◌, ◌*ℤ◌, ◌<ℤ◌, ◌≤ℤ◌, unsigned_abs, to_z, of_z, to_z-of_z, FitsSigned, w64}
 use Rattle.std.specs.Prelude.{int_le}
 use Rattle.std.specs.Int.{Width, int_div_euclid, int_rem_euclid}
-use Rattle.std.specs.Ordering.{int_cmp, nat_cmp, ordering_then}
+use Rattle.std.specs.Ordering.{int_eq, int_cmp, nat_cmp, ordering_then}
 use Rattle.std.proofs.lemmas.Bool.{and_parts, and_from}
 use Rattle.jiff_core.proofs.SignedLemmas.{signed_arith, one_part}
 use Rattle.sql_timestamp.specs.Instants.{Timestamp, timestamp_of, at_day, local_nanos, local_day, time_of_day, is_day, is_offset, is_timestamp, made, second_nanos, minute_nanos, day_nanos}
-use Rattle.sql_timestamp.specs.Words.{joined, ShowsYear}
+use Rattle.sql_timestamp.specs.Words.{joined, ShowsYear, shows_year_at, seconds_of, nanos_of, seconds_back, nanos_back}
 use Rattle.sql_timestamp.proofs.Dates.{at_most_true, day_between, is_day-between}
 
 -- a timestamp's offset, and what its clock shows
@@ -101,6 +101,35 @@ within_shows s o n h w =
       local_high = omega (arith, signed_arith);
     }
 
+pub shown_open : (s o : ℤ) → shows_year_at s o ≡ true → ShowsYear s o
+unfolding shows_year_at
+shown_open s o h =
+    let l = s +ℤ o *ℤ pos 60 in
+    let two = and_parts (is_offset o) (int_le (negsuc 62_135_596_799) l && int_le l (pos 253_402_300_799)) h in
+    let ends = and_parts (int_le (negsuc 1_438) o) (int_le o (pos 1_439)) two.0 in
+    let local = and_parts (int_le (negsuc 62_135_596_799) l) (int_le l (pos 253_402_300_799)) two.1 in
+    record {
+      offset_low = read_at_most (negsuc 1_438) o ends.0;
+      offset_high = read_at_most o (pos 1_439) ends.1;
+      local_low = read_at_most (negsuc 62_135_596_799) l local.0;
+      local_high = read_at_most l (pos 253_402_300_799) local.1;
+    }
+
+pub shown_close : (s o : ℤ) → ShowsYear s o → shows_year_at s o ≡ true
+unfolding shows_year_at
+shown_close s o y =
+    let l = s +ℤ o *ℤ pos 60 in
+    and_from (is_offset o) (int_le (negsuc 62_135_596_799) l && int_le l (pos 253_402_300_799))
+    (and_from (int_le (negsuc 1_438) o) (int_le o (pos 1_439)) (at_most_true _ _ y.offset_low) (at_most_true _ _ y.offset_high))
+    (and_from (int_le (negsuc 62_135_596_799) l) (int_le l (pos 253_402_300_799)) (at_most_true _ _ y.local_low) (at_most_true _ _ y.local_high))
+
+shows_by : (s o : ℤ) (b : Bool) → shows_year_at s o ≡ b → (ShowsYear s o → ⊥) → shows_year_at s o ≡ false
+shows_by s o true e h = absurd (h (shown_open s o e))
+shows_by s o false e h = e
+
+pub not_shown : (s o : ℤ) → (ShowsYear s o → ⊥) → false ≡ shows_year_at s o
+not_shown s o h = sym (shows_by s o (shows_year_at s o) refl h)
+
 -- what is passed on of a signed number is the number
 pub kept : (w : Width) (z : ℤ) → FitsSigned w z → to_z w (of_z w z) ≡ z
 kept w z f = to_z-of_z f
@@ -116,18 +145,18 @@ far_none i i' o e h =
     too_far i o far a b c d = omega (arith, signed_arith, one_part)
 
 -- the timestamp of two words that are passed on
-pub made_kept : (s s' o o' : ℤ) (n : ℕ) → s' ≡ s → o' ≡ o → n < second_nanos → ShowsYear s' o' → Some (timestamp_of (joined s' n) o') ≡ made (joined s n) o
+pub made_kept : (s s' o o' : ℤ) (n : ℕ) → s' ≡ s → o' ≡ o → n < second_nanos → shows_year_at s' o' ≡ true → Some (timestamp_of (joined s' n) o') ≡ made (joined s n) o
 made_kept s s' o o' n e f h shows =
     let same : made (joined s' n) o' ≡ made (joined s n) o = rw (e, f) refl in
-    sym (made_some (joined s' n) o' (is_within (timestamp_of (joined s' n) o') (shows_within s' o' n h shows))) ∙ same
+    sym (made_some (joined s' n) o' (is_within (timestamp_of (joined s' n) o') (shows_within s' o' n h (shown_open s' o' shows)))) ∙ same
 
-pub made_lost : (s s' o o' : ℤ) (n : ℕ) → s' ≡ s → o' ≡ o → n < second_nanos → (ShowsYear s' o' → false ≡ true) → None ≡ made (joined s n) o
+pub made_lost : (s s' o o' : ℤ) (n : ℕ) → s' ≡ s → o' ≡ o → n < second_nanos → shows_year_at s' o' ≡ false → None ≡ made (joined s n) o
 made_lost s s' o o' n e f h lost =
     let same : made (joined s' n) o' ≡ made (joined s n) o = rw (e, f) refl in
-    sym (made_none (joined s' n) o' (λ w. not_both (lost (within_shows s' o' n h w)))) ∙ same
+    sym (made_none (joined s' n) o' (λ w. not_both (shows_year_at s' o') (shown_close s' o' (within_shows s' o' n h w)) lost)) ∙ same
   where
-    not_both : false ≡ true → ⊥
-    not_both e = cc
+    not_both : (b : Bool) → b ≡ true → b ≡ false → ⊥
+    not_both b e f = cc
 
 -- ---- what a clock shows
 
@@ -155,10 +184,17 @@ pub day_shown : (s o l r r' : ℤ) (n : ℕ) (t : Timestamp) → n < second_nano
     → r ≡ int_div_euclid l (pos 86_400) → r' ≡ r → r' ≡ local_day t
 day_shown s o l r r' n t h is e f g = g ∙ f ∙ day_of_words s o l n h e ∙ ap local_day is
 
-pub year_shown : (s o : ℤ) (r : ℤ) (n : ℕ) (t : Timestamp) → n < second_nanos → ShowsYear s o → timestamp_of (joined s n) o ≡ t → r ≡ local_day t → is_day r ≡ true
+pub year_shown : (s o : ℤ) (r : ℤ) (n : ℕ) (t : Timestamp) → n < second_nanos → shows_year_at s o ≡ true → timestamp_of (joined s n) o ≡ t → r ≡ local_day t → is_day r ≡ true
 year_shown s o r n t h y is e =
-    let sound : is_timestamp t ≡ true = rw is at (is_within (timestamp_of (joined s n) o) (shows_within s o n h y)) in
+    let sound : is_timestamp t ≡ true = rw is at (is_within (timestamp_of (joined s n) o) (shows_within s o n h (shown_open s o y))) in
     rw e (day_is t sound)
+
+pub offset_shown : (s o : ℤ) (n : ℕ) (t : Timestamp) → shows_year_at s o ≡ true → timestamp_of (joined s n) o ≡ t → is_offset t.offset ≡ true
+unfolding shows_year_at
+offset_shown s o n t h is =
+    let l = s +ℤ o *ℤ pos 60 in
+    let off = (and_parts (is_offset o) (int_le (negsuc 62_135_596_799) l && int_le l (pos 253_402_300_799)) h).0 in
+    ap (λ x. is_offset x.offset) (sym is) ∙ off
 
 -- and the time of day
 pub time_shown : (s o l r r' : ℤ) (n : ℕ) (t : Timestamp) → n < second_nanos → timestamp_of (joined s n) o ≡ t → l ≡ s +ℤ o *ℤ pos 60
@@ -173,16 +209,16 @@ at_joined day s o second n e =
     ap (λ i. timestamp_of i o) same
 
 pub at_shows : (day s o o' : ℤ) (second : ℕ) → is_day day ≡ true → second < 86_400 → is_offset o ≡ true → o' ≡ o
-    → s ≡ day *ℤ pos 86_400 +ℤ pos second -ℤ o *ℤ pos 60 → ShowsYear s o'
+    → s ≡ day *ℤ pos 86_400 +ℤ pos second -ℤ o *ℤ pos 60 → shows_year_at s o' ≡ true
 at_shows day s o o' second d h off f e =
     let ends = offset_between o off in
     let days = day_between day d in
-    rw f (record {
+    rw f (shown_close s o (record {
       offset_low = ends.0;
       offset_high = ends.1;
       local_low = omega (arith, signed_arith);
       local_high = omega (arith, signed_arith);
-    })
+    }))
 
 -- ---- seconds later
 
@@ -192,11 +228,32 @@ made_moved x o' s o k n t is e f =
     let same : joined x n ≡ joined s n +ℤ k *ℤ pos second_nanos = omega (arith, signed_arith) in
     rw (← is, f) (ap (λ i. made i o) same)
 
-pub moved_lost : (s s' o k k' : ℤ) (n : ℕ) (t : Timestamp) → n < second_nanos → ShowsYear s o → timestamp_of (joined s n) o ≡ t → s' ≡ s → k' ≡ k
-    → (FitsSigned w64 (s' +ℤ k') → ⊥) → None ≡ made (t.instant +ℤ k *ℤ pos second_nanos) t.offset
-moved_lost s s' o k k' n t h y is e f lost =
-    let fits : ShowsYear (s +ℤ k) o → FitsSigned w64 (s' +ℤ k') = λ z. near s s' o k k' e f z in
-    sym (made_none (joined (s +ℤ k) n) o (λ w. lost (fits (within_shows (s +ℤ k) o n h w)))) ∙ made_moved (s +ℤ k) o s o k n t is refl refl
+pub moved_lost : (s o k : ℤ) (n : ℕ) (t : Timestamp) → n < second_nanos → timestamp_of (joined s n) o ≡ t
+    → (ShowsYear (s +ℤ k) o → ⊥) → None ≡ made (t.instant +ℤ k *ℤ pos second_nanos) t.offset
+moved_lost s o k n t h is lost =
+    sym (made_none (joined (s +ℤ k) n) o (λ w. lost (within_shows (s +ℤ k) o n h w))) ∙ made_moved (s +ℤ k) o s o k n t is refl refl
+
+-- the sum, and what is added, fit 64 bits where the sum is a timestamp's
+pub sum_fits : (s s' o k k' : ℤ) → s' ≡ s → k' ≡ k → (FitsSigned w64 (s' +ℤ k') → ⊥) → ShowsYear (s +ℤ k) o → ⊥
+sum_fits s s' o k k' e f lost y = lost (near s s' o k k' e f y)
   where
     near : (s s' o k k' : ℤ) → s' ≡ s → k' ≡ k → ShowsYear (s +ℤ k) o → FitsSigned w64 (s' +ℤ k')
     near s s' o k k' e f y = omega (arith, signed_arith, y.offset_low, y.offset_high, y.local_low, y.local_high)
+
+pub more_fits : (s o k k' : ℤ) → k' ≡ k → ShowsYear s o → (FitsSigned w64 k' → ⊥) → ShowsYear (s +ℤ k) o → ⊥
+more_fits s o k k' f x lost y = lost (near s o k k' f x y)
+  where
+    near : (s o k k' : ℤ) → k' ≡ k → ShowsYear s o → ShowsYear (s +ℤ k) o → FitsSigned w64 k'
+    near s o k k' f x y = omega (arith, signed_arith, x.offset_low, x.offset_high, x.local_low, x.local_high, y.offset_low, y.offset_high, y.local_low, y.local_high)
+
+-- ---- two timestamps that are the same
+
+pub eq_words : (s s' o o' : ℤ) (n n' : ℕ) (t u : Timestamp) (a b r : Bool) → n < second_nanos → n' < second_nanos
+    → timestamp_of (joined s n) o ≡ t → timestamp_of (joined s' n') o' ≡ u → a ≡ int_eq s s' → b ≡ (a && (n == n')) → r ≡ (b && int_eq o o')
+    → r ≡ (int_eq (seconds_of t.instant) (seconds_of u.instant) && ((nanos_of t.instant == nanos_of u.instant) && int_eq t.offset u.offset))
+eq_words s s' o o' n n' t u a b r h k is too e f g =
+    rw (g, f, e, ← is, ← too, seconds_back s n h, seconds_back s' n' k, nanos_back s n h, nanos_back s' n' k) (grouped (int_eq s s') (n == n') (int_eq o o'))
+  where
+    grouped : (x y z : Bool) → ((x && y) && z) ≡ (x && (y && z))
+    grouped true y z = refl
+    grouped false y z = refl

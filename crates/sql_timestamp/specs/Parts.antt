@@ -1,5 +1,5 @@
 -- The parts of a timestamp, and what adding to one of them gives.
-use Rattle.std.specs.Prelude.{ℕ, ◌+◌, ◌-◌, ◌*◌, ◌/◌, ◌%◌, min, Bool, true, false, ◌&&◌, ℤ, pos, ◌+ℤ◌, ◌*ℤ◌, unsigned_abs, int_le, int_div, int_rem, Result, Ok, Err, Option, Some, None, if◌then◌else◌}
+use Rattle.std.specs.Prelude.{◌≡◌, ℕ, ◌≤◌, ◌≤ℤ◌, ◌+◌, ◌-◌, ◌*◌, ◌/◌, ◌%◌, min, Bool, true, false, ◌&&◌, ℤ, pos, ◌+ℤ◌, ◌*ℤ◌, unsigned_abs, int_le, int_div, int_rem, Result, Ok, Err, Option, Some, None, if◌then◌else◌}
 use Rattle.std.specs.Int.{int_div_euclid, int_rem_euclid}
 use Rattle.jiff_core.specs.Calendar.{days_from_civil, days_in_month}
 use Rattle.sql_timestamp.specs.declared.fault.ValueFault.{ValueFault}
@@ -56,6 +56,19 @@ abbrev pub in_month : ℤ → ℕ → Timestamp → Result Timestamp ValueFault
 in_month y m t =
     if int_le (pos 1) y && int_le y (pos 9999) then Ok (at_day (cut_day y m (day_of (local_day t))) (time_of_day t) t.offset)
     else Err TimestampOutOfRange
+
+-- the month of that number: the months since January of the year 0
+pub record IsMonth (number y : ℤ) (m : ℕ) : Type 0 where
+  pub year : y ≡ int_div_euclid number (pos 12)
+  pub low : pos 1 ≤ℤ y
+  pub high : y ≤ℤ pos 9_999
+  pub month : m ≡ unsigned_abs (int_rem_euclid number (pos 12)) + 1
+  pub some : 1 ≤ m
+  pub within : m ≤ 12
+
+-- its year isn't from 1 to 9999
+abbrev pub NoMonth : ℤ → Type 0
+NoMonth number = pos 1 ≤ℤ int_div_euclid number (pos 12) → int_div_euclid number (pos 12) ≤ℤ pos 9_999 → ⊥
 
 -- so many months later on the clock's calendar
 unfoldable pub months_later : Timestamp → ℤ → Result Timestamp ValueFault

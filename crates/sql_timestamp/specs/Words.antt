@@ -1,9 +1,9 @@
 -- The two words of an instant: whole seconds, rounded down, and the nanoseconds of a second.
-use Rattle.std.specs.Prelude.{◌≡◌, ℕ, zero, suc, ◌+◌, ◌-◌, ◌*◌, ◌<◌, ◌≤◌, ℤ, pos, negsuc, ◌+ℤ◌, ◌*ℤ◌, ◌≤ℤ◌, unsigned_abs}
+use Rattle.std.specs.Prelude.{◌≡◌, ℕ, zero, suc, ◌+◌, ◌-◌, ◌*◌, ◌<◌, ◌≤◌, ℤ, pos, negsuc, ◌+ℤ◌, ◌*ℤ◌, ◌≤ℤ◌, unsigned_abs, int_le, Bool, ◌&&◌}
 use Rattle.std.specs.Int.{int_div_euclid, int_rem_euclid}
 use Rattle.std.proofs.Common.{arith}
 use Rattle.jiff_core.proofs.SignedLemmas.{signed_arith}
-use Rattle.sql_timestamp.specs.Instants.{second_nanos}
+use Rattle.sql_timestamp.specs.Instants.{second_nanos, is_offset}
 
 -- so many seconds and nanoseconds
 abbrev pub joined : ℤ → ℕ → ℤ
@@ -30,3 +30,8 @@ pub record ShowsYear (seconds offset : ℤ) : Type 0 where
   pub offset_high : offset ≤ℤ pos 1_439
   pub local_low : negsuc 62_135_596_799 ≤ℤ (seconds +ℤ offset *ℤ pos 60)
   pub local_high : (seconds +ℤ offset *ℤ pos 60) ≤ℤ pos 253_402_300_799
+
+-- the same as a test
+unfoldable pub shows_year_at : ℤ → ℤ → Bool
+shows_year_at seconds offset =
+    is_offset offset && (int_le (negsuc 62_135_596_799) (seconds +ℤ offset *ℤ pos 60) && int_le (seconds +ℤ offset *ℤ pos 60) (pos 253_402_300_799))

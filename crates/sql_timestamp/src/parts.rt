@@ -1,8 +1,9 @@
 //! The parts of a timestamp, and adding to them.
-ghost use Rattle.std.specs.Prelude.{◌≡◌, ◌+◌, ◌<◌, ◌≤◌, pos, ◌*ℤ◌, IsTrue, true};
-ghost use Rattle.sql_timestamp.specs.Instants.{is_day, second_nanos, minute_nanos, hour_nanos, day_nanos};
+ghost use Rattle.std.specs.Prelude.{◌≡◌, ◌-◌, ◌≤◌, pos, ◌+ℤ◌, ◌*ℤ◌, ◌≤ℤ◌, IsTrue, true, MatchOption};
+ghost use Rattle.std.specs.Int.{IsInRange};
+ghost use Rattle.sql_timestamp.specs.Instants.{is_day};
 ghost use Rattle.sql_timestamp.specs.Calendars.{year_of, month_of, day_of};
-ghost use Rattle.sql_timestamp.specs.Parts.{extracted, is_moved, date_added, units_later, months_later};
+ghost use Rattle.sql_timestamp.specs.Parts.{extracted, is_moved, date_added, in_range, cut_day, months_later, IsMonth, NoMonth};
 
 use crate::fault::ValueFault;
 use crate::part::Part;
@@ -17,6 +18,56 @@ pub(crate) fn date_of(day: i64) -> Date
     ensures day { result.day ≡ day_of day }
 {
     Date::from_days_since_min((day + 4_371_587) as u32)
+}
+
+/// Why there is no timestamp.
+fn in_time(stamp: Option<Stamp>) -> Result<Stamp, ValueFault>
+    ensures { result ≡ in_range stamp }
+{
+    match stamp {
+        Some(stamp) => Ok(stamp),
+        None => Err(ValueFault::TimestampOutOfRange),
+    }
+}
+
+/// A month of a year.
+#[derive(Drop)]
+struct Month {
+    year: i16,
+    month: u8,
+}
+
+/// The months since January of the year 0.
+fn month_number(date: Date) -> i64
+    ensures value { result ≡ date.year *ℤ pos 12 +ℤ pos (date.month - 1) }
+{
+    i64::from(date.year) * 12 + i64::from(date.month - 1)
+}
+
+/// The month of that number, or None where its year isn't from 1 to 9999.
+fn month_at(number: i64) -> Option<Month>
+    ensures { MatchOption result (NoMonth number) (λ m. IsMonth number m.year m.month) }
+{
+    let year = number.div_euclid(12);
+    if year < 1 || year > 9_999 {
+        return None;
+    }
+    Some(Month {
+        year: year as i16,
+        month: number.rem_euclid(12) as u8 + 1,
+    })
+}
+
+/// The day number of the day in a month, or of the month's last where it has none.
+fn day_in(month: Month, day: u8) -> i64
+    requires low { pos 1 ≤ℤ month.year }
+    requires high { month.year ≤ℤ pos 9_999 }
+    requires month { IsInRange 1 12 month.month }
+    requires day { 1 ≤ day }
+    ensures value { result ≡ cut_day month.year month.month day }
+    ensures year { is_day result ≡ true }
+{
+    i64::from(Date::constrain(month.year, month.month, day).to_unix_epoch_day())
 }
 
 impl Stamp {
@@ -46,87 +97,33 @@ impl Stamp {
         ensures { result ≡ date_added part self.now n }
     {
         match part {
-            Part::Year => self.years_later(n),
-            Part::Month => self.months_later(n),
-            Part::Day => self.days_later(n),
-            Part::Hour => self.hours_later(n),
-            Part::Minute => self.minutes_later(n),
-            Part::Second => self.later(n),
+            Part::Year => self.months_later(n, 12),
+            Part::Month => self.months_later(n, 1),
+            Part::Day => in_time(self.later(n, 86_400)),
+            Part::Hour => in_time(self.later(n, 3_600)),
+            Part::Minute => in_time(self.later(n, 60)),
+            Part::Second => in_time(self.later(n, 1)),
             Part::TimezoneHour | Part::TimezoneMinute => unreachable!(),
         }
     }
 
-    /// So many seconds later.
-    fn later(&self, n: i64) -> Result<Stamp, ValueFault>
-        ensures { result ≡ units_later second_nanos self.now n }
-    {
-        match self.seconds_later(n) {
-            Some(stamp) => Ok(stamp),
-            None => Err(ValueFault::TimestampOutOfRange),
-        }
-    }
-
-    /// So many days later.
-    fn days_later(&self, n: i64) -> Result<Stamp, ValueFault>
-        ensures { result ≡ units_later day_nanos self.now n }
-    {
-        match n.checked_mul(86_400) {
-            Some(seconds) => self.later(seconds),
-            None => Err(ValueFault::TimestampOutOfRange),
-        }
-    }
-
-    /// So many hours later.
-    fn hours_later(&self, n: i64) -> Result<Stamp, ValueFault>
-        ensures { result ≡ units_later hour_nanos self.now n }
-    {
-        match n.checked_mul(3_600) {
-            Some(seconds) => self.later(seconds),
-            None => Err(ValueFault::TimestampOutOfRange),
-        }
-    }
-
-    /// So many minutes later.
-    fn minutes_later(&self, n: i64) -> Result<Stamp, ValueFault>
-        ensures { result ≡ units_later minute_nanos self.now n }
-    {
-        match n.checked_mul(60) {
-            Some(seconds) => self.later(seconds),
-            None => Err(ValueFault::TimestampOutOfRange),
-        }
-    }
-
-    /// So many years later on the clock's calendar.
-    fn years_later(&self, n: i64) -> Result<Stamp, ValueFault>
-        ensures { result ≡ months_later self.now (n *ℤ pos 12) }
-    {
-        match n.checked_mul(12) {
-            Some(months) => self.months_later(months),
-            None => Err(ValueFault::TimestampOutOfRange),
-        }
-    }
-
-    /// So many months later on the clock's calendar.
-    fn months_later(&self, n: i64) -> Result<Stamp, ValueFault>
-        ensures { result ≡ months_later self.now n }
+    /// `n` times so many months later on the clock's calendar.
+    fn months_later(&self, n: i64, unit: i64) -> Result<Stamp, ValueFault>
+        ensures { result ≡ months_later self.now (n *ℤ unit) }
     {
         let shown = self.shown();
         let date = date_of(shown.day);
-        let number = i64::from(date.year) * 12 + (i64::from(date.month) - 1);
-        let Some(months) = number.checked_add(n) else {
+        let first = month_number(date);
+        let Some(more) = n.checked_mul(unit) else {
             return Err(ValueFault::TimestampOutOfRange);
         };
-        let year = months.div_euclid(12);
-        if year < 1 || year > 9_999 {
+        let Some(number) = first.checked_add(more) else {
             return Err(ValueFault::TimestampOutOfRange);
-        }
-        let month = months.rem_euclid(12) as u8 + 1;
-        let moved = Date::constrain(year as i16, month, date.day);
-        Ok(Stamp::at(
-            i64::from(moved.to_unix_epoch_day()),
-            shown.second,
-            shown.nanosecond,
-            self.offset(),
-        ))
+        };
+        let Some(month) = month_at(number) else {
+            return Err(ValueFault::TimestampOutOfRange);
+        };
+        let day = day_in(month, date.day);
+        Ok(Stamp::at(day, shown.second, shown.nanosecond, self.offset()))
     }
 }

@@ -1,8 +1,8 @@
 //! The timestamp.
-ghost use Rattle.std.specs.Prelude.{◌≡◌, ◌+◌, ◌*◌, ◌<◌, ◌≤◌, ℤ, pos, negsuc, ◌+ℤ◌, ◌-ℤ◌, ◌*ℤ◌, ◌≤ℤ◌, unsigned_abs, true, ◌^◌, IfSome, IfNone, IsTrue, ◌↔◌};
+ghost use Rattle.std.specs.Prelude.{◌≡◌, ◌+◌, ◌*◌, ◌<◌, ◌≤◌, ℤ, pos, negsuc, ◌+ℤ◌, ◌-ℤ◌, ◌*ℤ◌, ◌≤ℤ◌, unsigned_abs, true, ◌^◌, IfSome, IfNone};
 ghost use Rattle.std.specs.Ordering.{int_cmp};
 ghost use Rattle.sql_timestamp.specs.Instants.{made, second_nanos, is_day, is_offset, at_day, local_day, time_of_day};
-ghost use Rattle.sql_timestamp.specs.Words.{joined, ShowsYear};
+ghost use Rattle.sql_timestamp.specs.Words.{joined, shows_year_at};
 
 use std::cmp::Ordering;
 use std::marker::Model;
@@ -21,15 +21,15 @@ pub struct Stamp {
 }
 
 impl Model for Stamp {
-    ghost use Rattle.std.specs.Prelude.{◌<◌};
+    ghost use Rattle.std.specs.Prelude.{◌≡◌, ◌<◌, true};
     ghost use Rattle.sql_timestamp.specs.Instants.{Timestamp, timestamp_of, second_nanos};
-    ghost use Rattle.sql_timestamp.specs.Words.{joined, ShowsYear, seconds_of, nanos_of, seconds_back, nanos_back};
+    ghost use Rattle.sql_timestamp.specs.Words.{joined, shows_year_at, seconds_of, nanos_of, seconds_back, nanos_back};
 
     ghost Value = { Timestamp };
 
     ghost view = { λ s. timestamp_of (joined s.seconds s.nanoseconds) s.offset };
 
-    ghost invariant = { λ s. (s.nanoseconds < second_nanos) × ShowsYear s.seconds s.offset };
+    ghost invariant = { λ s. (s.nanoseconds < second_nanos) × (shows_year_at s.seconds s.offset ≡ true) };
 
     ghost inverse = { λ t. record {
       seconds = seconds_of t.instant;
@@ -95,7 +95,7 @@ fn words_of(instant: i128) -> Option<Split>
 
 /// Whether the offset is below a day, and its clock shows a year from 1 to 9999 at that second.
 fn shows_year(seconds: i64, offset: i16) -> bool
-    ensures { IsTrue result ↔ ShowsYear seconds offset }
+    ensures { result ≡ shows_year_at seconds offset }
 {
     if offset < -LONGEST_OFFSET || offset > LONGEST_OFFSET {
         return false;
@@ -177,11 +177,15 @@ impl Stamp {
         }
     }
 
-    /// The timestamp so many seconds later, or None where that is none.
-    pub(crate) fn seconds_later(&self, n: i64) -> Option<Stamp>
-        ensures { result ≡ made (self.now.instant +ℤ n *ℤ pos second_nanos) self.now.offset }
+    /// The timestamp `n` units of so many seconds later, or None where that is none.
+    pub(crate) fn later(&self, n: i64, unit: i64) -> Option<Stamp>
+        ensures { result ≡ made (self.now.instant +ℤ n *ℤ unit *ℤ pos second_nanos) self.now.offset }
     {
-        let Some(seconds) = self.seconds.checked_add(n) else {
+        let before = self.seconds;
+        let Some(more) = n.checked_mul(unit) else {
+            return None;
+        };
+        let Some(seconds) = before.checked_add(more) else {
             return None;
         };
         Stamp::of(seconds, self.nanoseconds, self.offset)
