@@ -1,7 +1,7 @@
 //! The parts of a timestamp, and adding to them.
 ghost use Rattle.std.specs.Prelude.{◌≡◌, ◌-◌, ◌≤◌, pos, ◌+ℤ◌, ◌*ℤ◌, ◌≤ℤ◌, IsTrue, true, MatchOption};
 ghost use Rattle.std.specs.Int.{IsInRange};
-ghost use Rattle.sql_timestamp.specs.Instants.{is_day};
+ghost use Rattle.sql_timestamp.specs.Instants.{is_day, local_day};
 ghost use Rattle.sql_timestamp.specs.Calendars.{year_of, month_of, day_of};
 ghost use Rattle.sql_timestamp.specs.Parts.{extracted, is_moved, date_added, in_range, cut_day, months_later, IsMonth, NoMonth};
 
@@ -11,7 +11,7 @@ use crate::stamp::Stamp;
 use jiff_core::civil::Date;
 
 /// The date of a day number.
-pub(crate) fn date_of(day: i64) -> Date
+fn date_of(day: i64) -> Date
     requires { is_day day ≡ true }
     ensures year { result.year ≡ pos (year_of day) }
     ensures month { result.month ≡ month_of day }
@@ -71,14 +71,23 @@ fn day_in(month: Month, day: u8) -> i64
 }
 
 impl Stamp {
+    /// The date that the clock shows.
+    pub(crate) fn date(&self) -> Date
+        ensures year { result.year ≡ pos (year_of (local_day self.now)) }
+        ensures month { result.month ≡ month_of (local_day self.now) }
+        ensures day { result.day ≡ day_of (local_day self.now) }
+    {
+        date_of(self.shown().day)
+    }
+
     /// A part of what the clock shows, the second without its fraction, or of the offset, with its sign.
     pub fn extract(&self, part: Part) -> i64
         ensures { result ≡ extracted part self.now }
     {
         match part {
-            Part::Year => i64::from(date_of(self.shown().day).year),
-            Part::Month => i64::from(date_of(self.shown().day).month),
-            Part::Day => i64::from(date_of(self.shown().day).day),
+            Part::Year => i64::from(self.date().year),
+            Part::Month => i64::from(self.date().month),
+            Part::Day => i64::from(self.date().day),
             Part::Hour => i64::from(self.shown().second / 3_600),
             Part::Minute => i64::from(self.shown().second / 60 % 60),
             Part::Second => i64::from(self.shown().second % 60),
@@ -112,7 +121,7 @@ impl Stamp {
         ensures { result ≡ months_later self.now (n *ℤ unit) }
     {
         let shown = self.shown();
-        let date = date_of(shown.day);
+        let date = self.date();
         let first = month_number(date);
         let Some(more) = n.checked_mul(unit) else {
             return Err(ValueFault::TimestampOutOfRange);

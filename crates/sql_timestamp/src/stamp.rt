@@ -200,7 +200,9 @@ impl Stamp {
 
     /// The offset in minutes, from -1,439 to 1,439.
     pub fn offset(&self) -> i16
-        ensures { result ≡ self.now.offset }
+        ensures value { result ≡ self.now.offset }
+        ensures low { negsuc 1_438 ≤ℤ result }
+        ensures high { result ≤ℤ pos 1_439 }
     {
         self.offset
     }
