@@ -4,12 +4,12 @@ use Rattle.std.specs.Prelude.{int_le}
 use Rattle.std.specs.Int.{IsInRange}
 use Rattle.std.proofs.lemmas.Bool.{cases_lt, and_parts}
 use Rattle.jiff_core.specs.declared.civil.date.Date.{Date}
-use Rattle.jiff_core.specs.Date.{epoch_day}
+use Rattle.jiff_core.specs.Date.{epoch_day, ordinal}
 use Rattle.jiff_core.specs.Calendar.{days_from_civil, days_in_month, days_in_year, day_count, IsYear, IsCivilDate}
 use Rattle.jiff_core.proofs.SignedLemmas.{signed_arith, one_part}
 use Rattle.jiff_core.proofs.MarchLemmas.{day_count-early}
 use Rattle.jiff_core.proofs.CalendarLemmas.{days_from_civil-day_count, day_count-next_month, day_count-later_year, day_count-last_of_year, day_count-day, days_in_month_bounds, days_in_year_bounds}
-use Rattle.jiff_core.proofs.DateLemmas.{days_from_civil-next_month, days_from_civil-next_year, days_from_civil-day, days_from_civil-max, epoch_day_injective}
+use Rattle.jiff_core.proofs.DateLemmas.{days_from_civil-next_month, days_from_civil-next_year, days_from_civil-day, days_from_civil-max, epoch_day_injective, epoch_day-ordinal, epoch_day_range}
 use Rattle.sql_timestamp.specs.Instants.{is_day}
 use Rattle.sql_timestamp.specs.Calendars.{begun, year_start, month_start, year_of, month_of, day_of}
 
@@ -215,3 +215,16 @@ parts_of_date date day h e =
       day_in = (is.day_low, is.day_high);
     } in
     epoch_day_injective date other (e ∙ sym is.number)
+
+-- a date of the years 1 to 9999 has its day there
+pub date_is_day : (date : Date) → pos 1 ≤ℤ date.year → date.year ≤ℤ pos 9_999 → is_day (epoch_day date) ≡ true
+date_is_day date low high =
+    let y = unsigned_abs date.year in
+    let side = one_part date.year in
+    let named : date.year ≡ pos y = omega (arith, signed_arith) in
+    let gap : 1 + (y - 1) ≡ y = omega (arith, signed_arith) in
+    let from = rw gap at (later year_start 9999 years_ascend (y - 1) 1 (omega arith) (omega (arith, signed_arith))) in
+    let first : days_from_civil (pos 1) 1 1 ≤ℤ days_from_civil date.year 1 1 = rw named from in
+    let place : 1 ≤ ordinal date = let d = date.day_in.0 in omega arith in
+    let here = epoch_day-ordinal date in
+    is_day-between (epoch_day date) (omega (arith, signed_arith, first_day)) (epoch_day_range date).1

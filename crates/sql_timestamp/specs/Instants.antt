@@ -32,6 +32,10 @@ local_nanos t = t.instant +ℤ t.offset *ℤ pos minute_nanos
 abbrev pub shown_at : ℤ → ℤ → Timestamp
 shown_at local o = timestamp_of (local -ℤ o *ℤ pos minute_nanos) o
 
+-- the timestamp at which it shows that time, in nanoseconds since midnight, of that day
+abbrev pub at_day : ℤ → ℕ → ℤ → Timestamp
+at_day day nanos o = shown_at (day *ℤ pos day_nanos +ℤ pos nanos) o
+
 -- the day that the clock shows, in days since 1970-01-01
 unfoldable pub local_day : Timestamp → ℤ
 local_day t = int_div_euclid (local_nanos t) (pos day_nanos)

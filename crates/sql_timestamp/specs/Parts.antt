@@ -1,12 +1,12 @@
 -- The parts of a timestamp, and what adding to one of them gives.
-use Rattle.std.specs.Prelude.{ℕ, ◌+◌, ◌-◌, ◌*◌, ◌/◌, ◌%◌, min, Bool, true, false, ◌&&◌, ℤ, pos, ◌+ℤ◌, ◌*ℤ◌, unsigned_abs, int_le, int_div, int_rem, Result, Ok, Err, Option, Some, None, if◌then◌else◌}
+use Rattle.std.specs.Prelude.{◌≡◌, ℕ, ◌≤◌, ◌≤ℤ◌, ◌+◌, ◌-◌, ◌*◌, ◌/◌, ◌%◌, min, Bool, true, false, ◌&&◌, ℤ, pos, ◌+ℤ◌, ◌*ℤ◌, unsigned_abs, int_le, int_div, int_rem, Result, Ok, Err, Option, Some, None, if◌then◌else◌}
 use Rattle.std.specs.Int.{int_div_euclid, int_rem_euclid}
 use Rattle.jiff_core.specs.Calendar.{days_from_civil, days_in_month}
 use Rattle.sql_timestamp.specs.declared.fault.ValueFault.{ValueFault}
 use Rattle.sql_timestamp.specs.declared.fault.ValueFault.TheVariants.{TimestampOutOfRange}
 use Rattle.sql_timestamp.specs.declared.part.Part.{Part}
 use Rattle.sql_timestamp.specs.declared.part.Part.TheVariants.{Year, Month, Day, Hour, Minute, Second, TimezoneHour, TimezoneMinute}
-use Rattle.sql_timestamp.specs.Instants.{Timestamp, timestamp_of, shown_at, second_nanos, minute_nanos, hour_nanos, day_nanos, local_day, time_of_day, made}
+use Rattle.sql_timestamp.specs.Instants.{Timestamp, at_day, second_nanos, minute_nanos, hour_nanos, day_nanos, local_day, time_of_day, made}
 use Rattle.sql_timestamp.specs.Calendars.{year_of, month_of, day_of}
 
 -- a part of what the clock shows, or of its offset; the parts of an offset have its sign
@@ -51,15 +51,24 @@ month_number day = pos (year_of day * 12 + (month_of day - 1))
 abbrev pub cut_day : ℤ → ℕ → ℕ → ℤ
 cut_day y m d = days_from_civil y m (min d (days_in_month y m))
 
--- the same time of another day
-abbrev pub on_day : ℤ → Timestamp → Timestamp
-on_day day t = shown_at (day *ℤ pos day_nanos +ℤ pos (time_of_day t)) t.offset
-
 -- in the month m of the year y, if that is from 1 to 9999
 abbrev pub in_month : ℤ → ℕ → Timestamp → Result Timestamp ValueFault
 in_month y m t =
-    if int_le (pos 1) y && int_le y (pos 9999) then Ok (on_day (cut_day y m (day_of (local_day t))) t)
+    if int_le (pos 1) y && int_le y (pos 9999) then Ok (at_day (cut_day y m (day_of (local_day t))) (time_of_day t) t.offset)
     else Err TimestampOutOfRange
+
+-- the month of that number: the months since January of the year 0
+pub record IsMonth (number y : ℤ) (m : ℕ) : Type 0 where
+  pub year : y ≡ int_div_euclid number (pos 12)
+  pub low : pos 1 ≤ℤ y
+  pub high : y ≤ℤ pos 9_999
+  pub month : m ≡ unsigned_abs (int_rem_euclid number (pos 12)) + 1
+  pub some : 1 ≤ m
+  pub within : m ≤ 12
+
+-- its year isn't from 1 to 9999
+abbrev pub NoMonth : ℤ → Type 0
+NoMonth number = pos 1 ≤ℤ int_div_euclid number (pos 12) → int_div_euclid number (pos 12) ≤ℤ pos 9_999 → ⊥
 
 -- so many months later on the clock's calendar
 unfoldable pub months_later : Timestamp → ℤ → Result Timestamp ValueFault

@@ -2,9 +2,9 @@
 use Rattle.std.specs.Prelude.{ℕ, zero, suc, ◌+◌, ◌*◌, ◌^◌, Bool, true, false, ◌&&◌, ◌==◌, nat_lt, ℤ, pos, neg_ℤ, List, [], ◌∷◌, Option, Some, None, if◌then◌else◌}
 use Rattle.std.specs.Char.{is_ascii_digit, digit_value}
 use Rattle.jiff_core.specs.Calendar.{days_from_civil}
-use Rattle.sql_timestamp.specs.Instants.{Timestamp, second_nanos}
+use Rattle.sql_timestamp.specs.Instants.{Timestamp, at_day, second_nanos}
 use Rattle.sql_timestamp.specs.Calendars.{is_date}
-use Rattle.sql_timestamp.specs.TimestampText.{hyphen, plus_sign, full_stop, colon, capital_t, capital_z, at_day}
+use Rattle.sql_timestamp.specs.TimestampText.{hyphen, plus_sign, full_stop, colon, capital_t, capital_z}
 
 -- what reading on gives, behind a part that may be missing
 abbrev pub and_then : {A B : Type 0} → Option A → (A → Option B) → Option B

@@ -5,7 +5,7 @@ use Rattle.std.specs.Prelude.{◌≡◌, ℕ, zero, suc, ◌+◌, ◌-◌, ◌*�
 use Rattle.std.specs.Str.{all_ascii_digits}
 use Rattle.std.specs.Char.{digit_value}
 use Rattle.jiff_core.specs.Calendar.{days_from_civil}
-use Rattle.sql_timestamp.specs.Instants.{Timestamp, shown_at, second_nanos, minute_nanos, hour_nanos, day_nanos}
+use Rattle.sql_timestamp.specs.Instants.{Timestamp, at_day, second_nanos, minute_nanos, hour_nanos}
 use Rattle.sql_timestamp.specs.Calendars.{is_date}
 
 -- the characters
@@ -146,10 +146,6 @@ nanos_of_seconds (Some s) = s.second * second_nanos + nanos_of_fraction s.fracti
 -- the time of day in nanoseconds
 abbrev pub nanos_of_clock : Clock → ℕ
 nanos_of_clock c = c.hour * hour_nanos + c.minute * minute_nanos + nanos_of_seconds c.seconds
-
--- where a clock of that offset shows that time on that day
-abbrev pub at_day : ℤ → ℕ → ℤ → Timestamp
-at_day day nanos offset = shown_at (day *ℤ pos day_nanos +ℤ pos nanos) offset
 
 abbrev pub meaning_of : TimestampText → Timestamp
 meaning_of (in_year y) = at_day (days_from_civil (pos y) 1 1) 0 (pos 0)
