@@ -32,12 +32,23 @@ pub fn arith_into<'r>(
 ) -> Option<ValueFault>
     ensures { Wrote (calculated op left.now right.now) result out.old out.new }
 {
-    if let Value::Int(left) = left {
-        if let Value::Int(right) = right {
-            return write_int(calculate_ints(op, *left, *right), out);
-        }
+    match left {
+        Value::Int(left_int) => match right {
+            Value::Int(right) => write_int(calculate_ints(op, *left_int, *right), out),
+            Value::Dec(right) => {
+                write_dec(calculate_decs(op, &Dec::of_int(*left_int), right), out)
+            }
+            _ => arith_of_any(op, left, right, out),
+        },
+        Value::Dec(left_dec) => match right {
+            Value::Dec(right) => write_dec(calculate_decs(op, left_dec, right), out),
+            Value::Int(right) => {
+                write_dec(calculate_decs(op, left_dec, &Dec::of_int(*right)), out)
+            }
+            _ => arith_of_any(op, left, right, out),
+        },
+        _ => arith_of_any(op, left, right, out),
     }
-    arith_of_any(op, left, right, out)
 }
 
 #[inline(never)]
