@@ -1,3 +1,4 @@
 pub mod Dates
 pub mod Ranges
 pub mod Moves
+pub mod ReadSteps

@@ -1,18 +1,21 @@
 //! Timestamps from text.
-ghost use Rattle.std.specs.Prelude.{◌≡◌, ◌+◌, ◌<◌, ◌≤◌, length, IfSome, Some, true};
+ghost use Rattle.std.specs.Prelude.{◌≡◌, ◌+◌, ◌^◌, ◌<◌, ◌≤◌, pos, IfSome, Some, true};
 ghost use Rattle.std.specs.Str.{chars};
 ghost use Rattle.sql_timestamp.specs.Instants.{Timestamp, is_day, is_offset, second_nanos};
 ghost use Rattle.sql_timestamp.specs.TimestampText.{Spells};
 ghost use Rattle.sql_timestamp.specs.Reading as reading;
+ghost use Rattle.sql_timestamp.specs.Calendars as calendar;
+ghost use Rattle.jiff_core.specs.Calendar.{days_from_civil};
 
 use crate::stamp::Stamp;
-use jiff_core::civil::Date;
+use jiff_core::civil::{self, Date};
 use text_view::Text;
 
 /// The number of two digits.
 #[inline(always)]
 fn pair(a: u8, b: u8) -> Option<u8>
-    ensures { result ≡ reading.pair a b }
+    ensures value { result ≡ reading.pair a b }
+    ensures bound { IfSome result (λ n. n < 100) }
 {
     if a.is_ascii_digit() && b.is_ascii_digit() {
         Some((a - b'0') * 10 + (b - b'0'))
@@ -60,6 +63,19 @@ fn signed_offset(west: bool, hour: u8, minute: u8) -> i16
     if west { -minutes } else { minutes }
 }
 
+/// The timestamp at an offset of so many hours and minutes, at the end of the text.
+#[inline(always)]
+fn at_offset(day: i64, second: u32, nanosecond: u32, west: bool, hour: u8, minute: u8, rest: &[u8]) -> Option<Stamp>
+    requires day { is_day day ≡ true }
+    requires second { second < 86_400 }
+    requires nanosecond { nanosecond < second_nanos }
+    requires hour { hour < 24 }
+    requires minute { minute < 60 }
+    ensures { result ≡ reading.at_end day second nanosecond (reading.signed_offset west hour minute) rest.now }
+{
+    at_end(day, second, nanosecond, signed_offset(west, hour, minute), rest)
+}
+
 /// Behind the sign of an offset.
 #[inline(always)]
 fn read_offset(day: i64, second: u32, nanosecond: u32, west: bool, rest: &[u8]) -> Option<Stamp>
@@ -78,7 +94,7 @@ fn read_offset(day: i64, second: u32, nanosecond: u32, west: bool, rest: &[u8]) 
         let Some(minute) = pair_below(60, *c, *d) else {
             return None;
         };
-        return at_end(day, second, nanosecond, signed_offset(west, hour, minute), left);
+        return at_offset(day, second, nanosecond, west, hour, minute, left);
     }
     None
 }
@@ -104,4 +120,302 @@ fn read_zone(day: i64, second: u32, nanosecond: u32, rest: &[u8]) -> Option<Stam
         return read_offset(day, second, nanosecond, true, left);
     }
     None
+}
+
+/// What a digit counts before so many more.
+#[inline(always)]
+fn weight(places: u32) -> u32
+    requires { places < 9 }
+    ensures { result ≡ 10 ^ places }
+{
+    match places {
+        0 => 1,
+        1 => 10,
+        2 => 100,
+        3 => 1_000,
+        4 => 10_000,
+        5 => 100_000,
+        6 => 1_000_000,
+        7 => 10_000_000,
+        _ => 100_000_000,
+    }
+}
+
+/// The digits behind the point, at most nine, and the zone behind them.
+fn read_fraction(day: i64, second: u32, rest: &[u8]) -> Option<Stamp>
+    requires day { is_day day ≡ true }
+    requires second { second < 86_400 }
+    ensures { result ≡ reading.read_fraction day second 0 9 rest.now }
+{
+    let mut left = rest;
+    let mut places: u32 = 9;
+    let mut nanosecond: u32 = 0;
+    'digits: while places > 0 {
+        let [digit, behind @ ..] = left else {
+            return None;
+        };
+        if digit.is_ascii_digit() {
+            places -= 1;
+            nanosecond += u32::from(*digit - b'0') * weight(places);
+            left = behind;
+        } else {
+            return read_zone(day, second, nanosecond, left);
+        }
+    }
+    read_zone(day, second, nanosecond, left)
+}
+
+/// Behind the point, where a digit must stand.
+#[inline(always)]
+fn after_point(day: i64, second: u32, rest: &[u8]) -> Option<Stamp>
+    requires day { is_day day ≡ true }
+    requires second { second < 86_400 }
+    ensures { result ≡ reading.after_point day second rest.now }
+{
+    let [digit, ..] = rest else {
+        return None;
+    };
+    if digit.is_ascii_digit() {
+        return read_fraction(day, second, rest);
+    }
+    None
+}
+
+/// Behind the seconds.
+#[inline(always)]
+fn after_second(day: i64, second: u32, rest: &[u8]) -> Option<Stamp>
+    requires day { is_day day ≡ true }
+    requires second { second < 86_400 }
+    ensures { result ≡ reading.after_second day second rest.now }
+{
+    let [mark, left @ ..] = rest else {
+        return None;
+    };
+    if *mark == b'.' {
+        return after_point(day, second, left);
+    }
+    read_zone(day, second, 0, rest)
+}
+
+/// Where the seconds must stand, at the start of a minute.
+#[inline(always)]
+fn read_second(day: i64, start: u32, rest: &[u8]) -> Option<Stamp>
+    requires day { is_day day ≡ true }
+    requires start { start + 60 ≤ 86_400 }
+    ensures { result ≡ reading.read_second day start rest.now }
+{
+    let [a, b, left @ ..] = rest else {
+        return None;
+    };
+    let Some(second) = pair_below(60, *a, *b) else {
+        return None;
+    };
+    after_second(day, start + u32::from(second), left)
+}
+
+/// Behind the minutes.
+#[inline(always)]
+fn after_minute(day: i64, start: u32, rest: &[u8]) -> Option<Stamp>
+    requires day { is_day day ≡ true }
+    requires start { start + 60 ≤ 86_400 }
+    ensures { result ≡ reading.after_minute day start rest.now }
+{
+    let [mark, left @ ..] = rest else {
+        return None;
+    };
+    if *mark == b':' {
+        return read_second(day, start, left);
+    }
+    read_zone(day, start, 0, rest)
+}
+
+/// Behind the mark of a time.
+#[inline(always)]
+fn read_time(day: i64, rest: &[u8]) -> Option<Stamp>
+    requires { is_day day ≡ true }
+    ensures { result ≡ reading.read_time day rest.now }
+{
+    let [a, b, mark, c, d, left @ ..] = rest else {
+        return at_end(day, 0, 0, 0, rest);
+    };
+    if *mark == b':' {
+        let Some(hour) = pair_below(24, *a, *b) else {
+            return None;
+        };
+        let Some(minute) = pair_below(60, *c, *d) else {
+            return None;
+        };
+        return after_minute(day, u32::from(hour) * 3_600 + u32::from(minute) * 60, left);
+    }
+    None
+}
+
+/// Whether the calendar has the date, in a year from 1 to 9999.
+#[inline(always)]
+#[tactic(auto, unfolding(crate::specs::Calendars::is_date))]
+fn is_date(year: u16, month: u8, day: u8) -> bool
+    requires { year ≤ 9_999 }
+    ensures { result ≡ calendar.is_date year month day }
+{
+    year >= 1 && year <= 9_999 && month >= 1 && month <= 12 && day >= 1 && day <= civil::days_in_month(year as i16, month)
+}
+
+/// The day number of a date.
+#[inline(always)]
+fn number_of(year: u16, month: u8, day: u8) -> i64
+    requires { calendar.is_date year month day ≡ true }
+    ensures value { result ≡ days_from_civil (pos year) month day }
+    ensures year { is_day result ≡ true }
+{
+    i64::from(Date::constrain(year as i16, month, day).to_unix_epoch_day())
+}
+
+/// The day number of a date, if it is one.
+#[inline(always)]
+fn day_number(year: u16, month: u8, day: u8) -> Option<i64>
+    requires { year ≤ 9_999 }
+    ensures value { result ≡ reading.day_number year month day }
+    ensures year { IfSome result (λ d. is_day d ≡ true) }
+{
+    if is_date(year, month, day) {
+        return Some(number_of(year, month, day));
+    }
+    None
+}
+
+/// The start of a date in UTC, at the end of the text.
+#[inline(always)]
+fn date_alone(year: u16, month: u8, day: u8, rest: &[u8]) -> Option<Stamp>
+    requires { year ≤ 9_999 }
+    ensures { result ≡ reading.date_alone year month day rest.now }
+{
+    let Some(number) = day_number(year, month, day) else {
+        return None;
+    };
+    at_end(number, 0, 0, 0, rest)
+}
+
+/// Behind the day.
+#[inline(always)]
+fn after_day(year: u16, month: u8, day: u8, rest: &[u8]) -> Option<Stamp>
+    requires { year ≤ 9_999 }
+    ensures { result ≡ reading.after_day year month day rest.now }
+{
+    let [mark, left @ ..] = rest else {
+        return date_alone(year, month, day, rest);
+    };
+    if *mark == b'T' {
+        let Some(number) = day_number(year, month, day) else {
+            return None;
+        };
+        return read_time(number, left);
+    }
+    None
+}
+
+/// Where the day must stand.
+#[inline(always)]
+fn read_day(year: u16, month: u8, rest: &[u8]) -> Option<Stamp>
+    requires { year ≤ 9_999 }
+    ensures { result ≡ reading.read_day year month rest.now }
+{
+    let [a, b, left @ ..] = rest else {
+        return None;
+    };
+    let Some(day) = pair(*a, *b) else {
+        return None;
+    };
+    after_day(year, month, day, left)
+}
+
+/// Behind the month.
+#[inline(always)]
+fn after_month(year: u16, month: u8, rest: &[u8]) -> Option<Stamp>
+    requires { year ≤ 9_999 }
+    ensures { result ≡ reading.after_month year month rest.now }
+{
+    let [mark, left @ ..] = rest else {
+        return None;
+    };
+    if *mark == b'-' {
+        return read_day(year, month, left);
+    }
+    if *mark == b'T' {
+        return date_alone(year, month, 1, left);
+    }
+    None
+}
+
+/// Where the month must stand.
+#[inline(always)]
+fn read_month(year: u16, rest: &[u8]) -> Option<Stamp>
+    requires { year ≤ 9_999 }
+    ensures { result ≡ reading.read_month year rest.now }
+{
+    let [a, b, left @ ..] = rest else {
+        return None;
+    };
+    let Some(month) = pair(*a, *b) else {
+        return None;
+    };
+    after_month(year, month, left)
+}
+
+/// Behind the year.
+#[inline(always)]
+fn after_year(year: u16, rest: &[u8]) -> Option<Stamp>
+    requires { year ≤ 9_999 }
+    ensures { result ≡ reading.after_year year rest.now }
+{
+    let [mark, left @ ..] = rest else {
+        return None;
+    };
+    if *mark == b'-' {
+        return read_month(year, left);
+    }
+    if *mark == b'T' {
+        return date_alone(year, 1, 1, left);
+    }
+    None
+}
+
+/// The timestamp that the bytes spell, each a character.
+#[tactic(auto, unfolding(crate::specs::Reading::spelled_timestamp))]
+fn read_bytes(bytes: &[u8]) -> Option<Stamp>
+    ensures { result ≡ reading.spelled_timestamp bytes.now }
+{
+    let [a, b, c, d, left @ ..] = bytes else {
+        return None;
+    };
+    let Some(high) = pair(*a, *b) else {
+        return None;
+    };
+    let Some(low) = pair(*c, *d) else {
+        return None;
+    };
+    after_year(u16::from(high) * 100 + u16::from(low), left)
+}
+
+impl Stamp {
+    /// The timestamp that the text spells: `2024T`, `2024-02T`, `2024-02-29` and `2024-02-29T` in
+    /// UTC, or a date and a time with its offset, as `2024-02-29T10:00Z` and
+    /// `2024-02-29T10:00:30.25+02:00`.
+    pub fn read(text: &Text) -> Option<Stamp>
+        ensures value { result ≡ reading.spelled_timestamp text.now }
+        ensures grammar { IfSome result (Spells text.now) }
+        ensures alone { (t : Timestamp) → Spells text.now t → result ≡ Some t }
+    {
+        let _ = text;
+        None
+    }
+
+    /// The timestamp that the text spells, as `read` gives it for its characters.
+    pub fn read_str(text: &str) -> Option<Stamp>
+        ensures value { result ≡ reading.spelled_timestamp (chars text.now) }
+        ensures grammar { IfSome result (Spells (chars text.now)) }
+        ensures alone { (t : Timestamp) → Spells (chars text.now) t → result ≡ Some t }
+    {
+        let _ = text;
+        None
+    }
 }
