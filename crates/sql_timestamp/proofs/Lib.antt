@@ -2,3 +2,4 @@ pub mod Dates
 pub mod Ranges
 pub mod Moves
 pub mod ReadSteps
+pub mod Spelling

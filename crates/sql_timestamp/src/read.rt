@@ -1,5 +1,6 @@
 //! Timestamps from text.
-ghost use Rattle.std.specs.Prelude.{◌≡◌, ◌+◌, ◌^◌, ◌<◌, ◌≤◌, pos, IfSome, Some, true};
+ghost use Rattle.std.specs.Prelude.{◌≡◌, ◌+◌, ◌*◌, ◌^◌, ◌<◌, ◌≤◌, pos, IfSome, Some, None, true, MatchOption};
+ghost use Rattle.std.specs.Char.{is_ascii_digit, digit_value};
 ghost use Rattle.std.specs.Str.{chars};
 ghost use Rattle.sql_timestamp.specs.Instants.{Timestamp, is_day, is_offset, second_nanos};
 ghost use Rattle.sql_timestamp.specs.TimestampText.{Spells};
@@ -11,8 +12,17 @@ use crate::stamp::Stamp;
 use jiff_core::civil::{self, Date};
 use text_view::Text;
 
+/// A day of the years 1 to 9999.
+#[derive(Clone, Copy)]
+struct Day {
+    /// Days since 1970-01-01.
+    number: i64,
+    ghost in_range: { is_day number ≡ true },
+}
+
 /// The number of two digits.
 #[inline(always)]
+#[tactic(auto, unfolding(crate::specs::Reading::pair))]
 fn pair(a: u8, b: u8) -> Option<u8>
     ensures value { result ≡ reading.pair a b }
     ensures bound { IfSome result (λ n. n < 100) }
@@ -26,6 +36,7 @@ fn pair(a: u8, b: u8) -> Option<u8>
 
 /// The number of two digits, where it is below the limit.
 #[inline(always)]
+#[tactic(auto, unfolding(crate::specs::Reading::pair_below))]
 fn pair_below(limit: u8, a: u8, b: u8) -> Option<u8>
     ensures value { result ≡ reading.pair_below limit a b }
     ensures bound { IfSome result (λ n. n < limit) }
@@ -38,21 +49,22 @@ fn pair_below(limit: u8, a: u8, b: u8) -> Option<u8>
 
 /// The timestamp, at the end of the text.
 #[inline(always)]
-fn at_end(day: i64, second: u32, nanosecond: u32, offset: i16, rest: &[u8]) -> Option<Stamp>
-    requires day { is_day day ≡ true }
+#[tactic(auto, unfolding(crate::specs::Reading::at_end))]
+fn at_end(day: Day, second: u32, nanosecond: u32, offset: i16, rest: &[u8]) -> Option<Stamp>
     requires second { second < 86_400 }
     requires nanosecond { nanosecond < second_nanos }
     requires offset { is_offset offset ≡ true }
-    ensures { result ≡ reading.at_end day second nanosecond offset rest.now }
+    ensures { result ≡ reading.at_end day.number second nanosecond offset rest.now }
 {
     match rest {
-        [] => Some(Stamp::at(day, second, nanosecond, offset)),
+        [] => Some(Stamp::at(day.number, second, nanosecond, offset)),
         [_, ..] => None,
     }
 }
 
 /// The offset of so many hours and minutes, with its sign.
 #[inline(always)]
+#[tactic(auto, unfolding(crate::specs::Reading::signed_offset))]
 fn signed_offset(west: bool, hour: u8, minute: u8) -> i16
     requires hour { hour < 24 }
     requires minute { minute < 60 }
@@ -65,24 +77,23 @@ fn signed_offset(west: bool, hour: u8, minute: u8) -> i16
 
 /// The timestamp at an offset of so many hours and minutes, at the end of the text.
 #[inline(always)]
-fn at_offset(day: i64, second: u32, nanosecond: u32, west: bool, hour: u8, minute: u8, rest: &[u8]) -> Option<Stamp>
-    requires day { is_day day ≡ true }
+fn at_offset(day: Day, second: u32, nanosecond: u32, west: bool, hour: u8, minute: u8, rest: &[u8]) -> Option<Stamp>
     requires second { second < 86_400 }
     requires nanosecond { nanosecond < second_nanos }
     requires hour { hour < 24 }
     requires minute { minute < 60 }
-    ensures { result ≡ reading.at_end day second nanosecond (reading.signed_offset west hour minute) rest.now }
+    ensures { result ≡ reading.at_end day.number second nanosecond (reading.signed_offset west hour minute) rest.now }
 {
     at_end(day, second, nanosecond, signed_offset(west, hour, minute), rest)
 }
 
 /// Behind the sign of an offset.
 #[inline(always)]
-fn read_offset(day: i64, second: u32, nanosecond: u32, west: bool, rest: &[u8]) -> Option<Stamp>
-    requires day { is_day day ≡ true }
+#[tactic(auto, unfolding(crate::specs::Reading::read_offset))]
+fn read_offset(day: Day, second: u32, nanosecond: u32, west: bool, rest: &[u8]) -> Option<Stamp>
     requires second { second < 86_400 }
     requires nanosecond { nanosecond < second_nanos }
-    ensures { result ≡ reading.read_offset day second nanosecond west rest.now }
+    ensures { result ≡ reading.read_offset day.number second nanosecond west rest.now }
 {
     let [a, b, mark, c, d, left @ ..] = rest else {
         return None;
@@ -101,11 +112,11 @@ fn read_offset(day: i64, second: u32, nanosecond: u32, west: bool, rest: &[u8]) 
 
 /// Where the zone must stand.
 #[inline(always)]
-fn read_zone(day: i64, second: u32, nanosecond: u32, rest: &[u8]) -> Option<Stamp>
-    requires day { is_day day ≡ true }
+#[tactic(auto, unfolding(crate::specs::Reading::read_zone))]
+fn read_zone(day: Day, second: u32, nanosecond: u32, rest: &[u8]) -> Option<Stamp>
     requires second { second < 86_400 }
     requires nanosecond { nanosecond < second_nanos }
-    ensures { result ≡ reading.read_zone day second nanosecond rest.now }
+    ensures { result ≡ reading.read_zone day.number second nanosecond rest.now }
 {
     let [mark, left @ ..] = rest else {
         return None;
@@ -126,7 +137,8 @@ fn read_zone(day: i64, second: u32, nanosecond: u32, rest: &[u8]) -> Option<Stam
 #[inline(always)]
 fn weight(places: u32) -> u32
     requires { places < 9 }
-    ensures { result ≡ 10 ^ places }
+    ensures value { result ≡ 10 ^ places }
+    ensures bound { result ≤ 100_000_000 }
 {
     match places {
         0 => 1,
@@ -141,52 +153,60 @@ fn weight(places: u32) -> u32
     }
 }
 
-/// The digits behind the point, at most nine, and the zone behind them.
-fn read_fraction(day: i64, second: u32, rest: &[u8]) -> Option<Stamp>
-    requires day { is_day day ≡ true }
-    requires second { second < 86_400 }
-    ensures { result ≡ reading.read_fraction day second 0 9 rest.now }
+/// What a digit counts before so many more, in nanoseconds.
+#[inline(always)]
+fn digit_nanos(digit: u8, places: u32) -> u32
+    requires digit { is_ascii_digit digit ≡ true }
+    requires places { places < 9 }
+    ensures value { result ≡ digit_value digit * 10 ^ places }
+    ensures room { result + 10 ^ places ≤ 10 ^ (places + 1) }
 {
-    let mut left = rest;
-    let mut places: u32 = 9;
-    let mut nanosecond: u32 = 0;
-    'digits: while places > 0 {
-        let [digit, behind @ ..] = left else {
-            return None;
-        };
-        if digit.is_ascii_digit() {
-            places -= 1;
-            nanosecond += u32::from(*digit - b'0') * weight(places);
-            left = behind;
-        } else {
-            return read_zone(day, second, nanosecond, left);
-        }
+    u32::from(digit - b'0') * weight(places)
+}
+
+/// Within the digits behind the point, where so many more may come, and the zone behind them.
+#[tactic(auto, using(crate::proofs::ReadSteps::fraction_end, crate::proofs::ReadSteps::fraction_more, crate::proofs::ReadSteps::fraction_zone, crate::proofs::ReadSteps::fraction_none, crate::proofs::ReadSteps::room))]
+fn read_fraction(day: Day, second: u32, nanosecond: u32, places: u32, rest: &[u8]) -> Option<Stamp>
+    requires second { second < 86_400 }
+    requires places { places ≤ 9 }
+    requires room { nanosecond + 10 ^ places ≤ 1_000_000_000 }
+    ensures { result ≡ reading.read_fraction day.number second nanosecond places rest.now }
+{
+    if places == 0 {
+        return read_zone(day, second, nanosecond, rest);
     }
-    read_zone(day, second, nanosecond, left)
+    let [digit, left @ ..] = rest else {
+        return None;
+    };
+    if digit.is_ascii_digit() {
+        let value = digit_nanos(*digit, places - 1);
+        return read_fraction(day, second, nanosecond + value, places - 1, left);
+    }
+    read_zone(day, second, nanosecond, rest)
 }
 
 /// Behind the point, where a digit must stand.
 #[inline(always)]
-fn after_point(day: i64, second: u32, rest: &[u8]) -> Option<Stamp>
-    requires day { is_day day ≡ true }
+#[tactic(auto, unfolding(crate::specs::Reading::after_point))]
+fn after_point(day: Day, second: u32, rest: &[u8]) -> Option<Stamp>
     requires second { second < 86_400 }
-    ensures { result ≡ reading.after_point day second rest.now }
+    ensures { result ≡ reading.after_point day.number second rest.now }
 {
     let [digit, ..] = rest else {
         return None;
     };
     if digit.is_ascii_digit() {
-        return read_fraction(day, second, rest);
+        return read_fraction(day, second, 0, 9, rest);
     }
     None
 }
 
 /// Behind the seconds.
 #[inline(always)]
-fn after_second(day: i64, second: u32, rest: &[u8]) -> Option<Stamp>
-    requires day { is_day day ≡ true }
+#[tactic(auto, unfolding(crate::specs::Reading::after_second))]
+fn after_second(day: Day, second: u32, rest: &[u8]) -> Option<Stamp>
     requires second { second < 86_400 }
-    ensures { result ≡ reading.after_second day second rest.now }
+    ensures { result ≡ reading.after_second day.number second rest.now }
 {
     let [mark, left @ ..] = rest else {
         return None;
@@ -199,10 +219,10 @@ fn after_second(day: i64, second: u32, rest: &[u8]) -> Option<Stamp>
 
 /// Where the seconds must stand, at the start of a minute.
 #[inline(always)]
-fn read_second(day: i64, start: u32, rest: &[u8]) -> Option<Stamp>
-    requires day { is_day day ≡ true }
+#[tactic(auto, unfolding(crate::specs::Reading::read_second))]
+fn read_second(day: Day, start: u32, rest: &[u8]) -> Option<Stamp>
     requires start { start + 60 ≤ 86_400 }
-    ensures { result ≡ reading.read_second day start rest.now }
+    ensures { result ≡ reading.read_second day.number start rest.now }
 {
     let [a, b, left @ ..] = rest else {
         return None;
@@ -215,10 +235,10 @@ fn read_second(day: i64, start: u32, rest: &[u8]) -> Option<Stamp>
 
 /// Behind the minutes.
 #[inline(always)]
-fn after_minute(day: i64, start: u32, rest: &[u8]) -> Option<Stamp>
-    requires day { is_day day ≡ true }
+#[tactic(auto, unfolding(crate::specs::Reading::after_minute))]
+fn after_minute(day: Day, start: u32, rest: &[u8]) -> Option<Stamp>
     requires start { start + 60 ≤ 86_400 }
-    ensures { result ≡ reading.after_minute day start rest.now }
+    ensures { result ≡ reading.after_minute day.number start rest.now }
 {
     let [mark, left @ ..] = rest else {
         return None;
@@ -231,9 +251,9 @@ fn after_minute(day: i64, start: u32, rest: &[u8]) -> Option<Stamp>
 
 /// Behind the mark of a time.
 #[inline(always)]
-fn read_time(day: i64, rest: &[u8]) -> Option<Stamp>
-    requires { is_day day ≡ true }
-    ensures { result ≡ reading.read_time day rest.now }
+#[tactic(auto, unfolding(crate::specs::Reading::read_time))]
+fn read_time(day: Day, rest: &[u8]) -> Option<Stamp>
+    ensures { result ≡ reading.read_time day.number rest.now }
 {
     let [a, b, mark, c, d, left @ ..] = rest else {
         return at_end(day, 0, 0, 0, rest);
@@ -260,43 +280,46 @@ fn is_date(year: u16, month: u8, day: u8) -> bool
     year >= 1 && year <= 9_999 && month >= 1 && month <= 12 && day >= 1 && day <= civil::days_in_month(year as i16, month)
 }
 
-/// The day number of a date.
+/// The day of a date.
 #[inline(always)]
-fn number_of(year: u16, month: u8, day: u8) -> i64
+fn day_of(year: u16, month: u8, day: u8) -> Day
     requires { calendar.is_date year month day ≡ true }
-    ensures value { result ≡ days_from_civil (pos year) month day }
-    ensures year { is_day result ≡ true }
+    ensures { result.number ≡ days_from_civil (pos year) month day }
 {
-    i64::from(Date::constrain(year as i16, month, day).to_unix_epoch_day())
+    Day {
+        number: i64::from(Date::constrain(year as i16, month, day).to_unix_epoch_day()),
+    }
 }
 
-/// The day number of a date, if it is one.
+/// The day of a date, if it is one.
 #[inline(always)]
-fn day_number(year: u16, month: u8, day: u8) -> Option<i64>
+#[tactic(auto, unfolding(crate::specs::Reading::day_number))]
+fn day_number(year: u16, month: u8, day: u8) -> Option<Day>
     requires { year ≤ 9_999 }
-    ensures value { result ≡ reading.day_number year month day }
-    ensures year { IfSome result (λ d. is_day d ≡ true) }
+    ensures { MatchOption result (reading.day_number year month day ≡ None) (λ d. reading.day_number year month day ≡ Some d.number) }
 {
     if is_date(year, month, day) {
-        return Some(number_of(year, month, day));
+        return Some(day_of(year, month, day));
     }
     None
 }
 
 /// The start of a date in UTC, at the end of the text.
 #[inline(always)]
+#[tactic(auto, unfolding(crate::specs::Reading::date_alone))]
 fn date_alone(year: u16, month: u8, day: u8, rest: &[u8]) -> Option<Stamp>
     requires { year ≤ 9_999 }
     ensures { result ≡ reading.date_alone year month day rest.now }
 {
-    let Some(number) = day_number(year, month, day) else {
+    let Some(day) = day_number(year, month, day) else {
         return None;
     };
-    at_end(number, 0, 0, 0, rest)
+    at_end(day, 0, 0, 0, rest)
 }
 
 /// Behind the day.
 #[inline(always)]
+#[tactic(auto, unfolding(crate::specs::Reading::after_day))]
 fn after_day(year: u16, month: u8, day: u8, rest: &[u8]) -> Option<Stamp>
     requires { year ≤ 9_999 }
     ensures { result ≡ reading.after_day year month day rest.now }
@@ -305,16 +328,17 @@ fn after_day(year: u16, month: u8, day: u8, rest: &[u8]) -> Option<Stamp>
         return date_alone(year, month, day, rest);
     };
     if *mark == b'T' {
-        let Some(number) = day_number(year, month, day) else {
+        let Some(day) = day_number(year, month, day) else {
             return None;
         };
-        return read_time(number, left);
+        return read_time(day, left);
     }
     None
 }
 
 /// Where the day must stand.
 #[inline(always)]
+#[tactic(auto, unfolding(crate::specs::Reading::read_day))]
 fn read_day(year: u16, month: u8, rest: &[u8]) -> Option<Stamp>
     requires { year ≤ 9_999 }
     ensures { result ≡ reading.read_day year month rest.now }
@@ -330,6 +354,7 @@ fn read_day(year: u16, month: u8, rest: &[u8]) -> Option<Stamp>
 
 /// Behind the month.
 #[inline(always)]
+#[tactic(auto, unfolding(crate::specs::Reading::after_month))]
 fn after_month(year: u16, month: u8, rest: &[u8]) -> Option<Stamp>
     requires { year ≤ 9_999 }
     ensures { result ≡ reading.after_month year month rest.now }
@@ -348,6 +373,7 @@ fn after_month(year: u16, month: u8, rest: &[u8]) -> Option<Stamp>
 
 /// Where the month must stand.
 #[inline(always)]
+#[tactic(auto, unfolding(crate::specs::Reading::read_month))]
 fn read_month(year: u16, rest: &[u8]) -> Option<Stamp>
     requires { year ≤ 9_999 }
     ensures { result ≡ reading.read_month year rest.now }
@@ -363,6 +389,7 @@ fn read_month(year: u16, rest: &[u8]) -> Option<Stamp>
 
 /// Behind the year.
 #[inline(always)]
+#[tactic(auto, unfolding(crate::specs::Reading::after_year))]
 fn after_year(year: u16, rest: &[u8]) -> Option<Stamp>
     requires { year ≤ 9_999 }
     ensures { result ≡ reading.after_year year rest.now }
