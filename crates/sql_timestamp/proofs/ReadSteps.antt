@@ -1,5 +1,5 @@
 -- The steps of reading.
-use Rattle.std.proofs.Common.{◌≡◌, ℕ, zero, suc, ◌+◌, ◌-◌, ◌*◌, ◌^◌, ◌<◌, ◌≤◌, Bool, true, false, List, [], ◌∷◌, Option, Some, None, refl, sym, ap, ◌∙◌, arith, ℤ, pos, mul-le-mul_right}
+use Rattle.std.proofs.Common.{◌≡◌, ℕ, zero, suc, ◌+◌, ◌-◌, ◌*◌, ◌^◌, ◌<◌, ◌≤◌, Bool, true, false, List, [], ◌∷◌, length, Option, Some, None, refl, sym, ap, ◌∙◌, arith, ℤ, pos, mul-le-mul_right}
 use Rattle.std.specs.Char.{is_ascii_digit, digit_value}
 use Rattle.std.proofs.lemmas.Bool.Decides.{nat_tests}
 use Rattle.std.proofs.Math.Nat.{pow-succ'}
@@ -20,10 +20,15 @@ unfolding read_fraction
 fraction_zone day s f zero c cs some t = absurd (omega arith)
 fraction_zone day s f (suc k) c cs some t = rw t refl
 
-pub fraction_none : (day : ℤ) (s f p : ℕ) → 0 < p → read_fraction day s f p [] ≡ None
+pub fraction_none : (day : ℤ) (s f p : ℕ) (cs : List ℕ) → 0 < p → length cs < 1 → read_fraction day s f p cs ≡ None
 unfolding read_fraction
-fraction_none day s f zero some = absurd (omega arith)
-fraction_none day s f (suc k) some = refl
+fraction_none day s f zero cs some e = absurd (omega arith)
+fraction_none day s f (suc k) [] some e = refl
+fraction_none day s f (suc k) (c ∷ cs) some e = absurd (omega arith)
+
+pub some_power : (p : ℕ) → 1 ≤ 10 ^ p
+some_power zero = omega arith
+some_power (suc p) = let power = pow-succ' 10 p in let more = some_power p in omega arith
 
 pub fraction_end : (day : ℤ) (s f p : ℕ) (cs : List ℕ) → p ≡ 0 → read_fraction day s f p cs ≡ read_zone day s f cs
 unfolding read_fraction

@@ -6,6 +6,7 @@ use Rattle.std.proofs.lemmas.Bool.Decides.{nat_tests}
 use Rattle.std.proofs.lemmas.Bool.{and_parts, and_from}
 use Rattle.std.proofs.lemmas.Map.Views.{exact_unsigned_eq}
 use Rattle.jiff_core.specs.Calendar.{days_from_civil}
+use Rattle.sql_timestamp.proofs.ReadSteps.{fraction_more}
 use Rattle.sql_timestamp.specs.Instants.{Timestamp, at_day, second_nanos, minute_nanos, hour_nanos}
 use Rattle.sql_timestamp.specs.Calendars.{is_date}
 use Rattle.sql_timestamp.specs.TimestampText.{hyphen, plus_sign, full_stop, colon, capital_t, capital_z, digit, print_two, print_four, Zone, universal, ahead, behind, print_zone, Seconds, print_fraction, print_seconds, Clock, print_clock, TimestampText, in_year, in_month, on_day, marked_day, at_time, print_date, print_text, IsZone, IsFraction, IsSeconds, IsClock, IsText, offset_of, fraction_nanos, nanos_of_fraction, nanos_of_seconds, nanos_of_clock, meaning_of, Spells}
@@ -35,10 +36,22 @@ tested false x t h = absurd (nothing t h)
 
 -- ---- digits
 
+same_cons : {x y : ℕ} {xs ys : List ℕ} → x ≡ y → xs ≡ ys → x ∷ xs ≡ y ∷ ys
+same_cons e f = rw (e, f) refl
+
 record IsPair (a b n : ℕ) : Type 0 where
   first : a ≡ digit (n / 10)
   second : b ≡ digit (n % 10)
   bound : n < 100
+
+two_text : (a b n : ℕ) (rest cs : List ℕ) → IsPair a b n → rest ≡ cs → print_two n rest ≡ a ∷ b ∷ cs
+two_text a b n rest cs p e = same_cons (sym p.first) (same_cons (sym p.second) e)
+
+digit_range : (d : ℕ) → is_ascii_digit d ≡ true → (48 ≤ d) × (d ≤ 57)
+digit_range d t = grind (arith, nat_tests)
+
+pub digit_counts : (d : ℕ) → is_ascii_digit d ≡ true → digit_value d ≡ d - 48
+digit_counts d t = grind (arith, nat_tests)
 
 some_number : (m n : ℕ) → Some m ≡ Some n → m ≡ n
 some_number m n h = cc
@@ -53,10 +66,9 @@ pair_by a b n true e h =
     let p = digit_range a two.0 in
     let q = digit_range b two.1 in
     let is = some_number (digit_value a * 10 + digit_value b) n h in
+    let v = digit_counts a two.0 in
+    let w = digit_counts b two.1 in
     record { first = omega arith; second = omega arith; bound = omega arith }
-  where
-    digit_range : (d : ℕ) → is_ascii_digit d ≡ true → (48 ≤ d) × (d ≤ 57)
-    digit_range d t = grind (arith, nat_tests)
 
 pair_is : (a b n : ℕ) → pair a b ≡ Some n → IsPair a b n
 unfolding pair
@@ -137,7 +149,7 @@ offset_is day s f west (a ∷ b ∷ c ∷ d ∷ e ∷ cs) t h =
     record {
       zone = zone_from west hour.value minute.value;
       valid = zone_valid west hour.value minute.value p.1 q.1;
-      text = zone_text west hour.value minute.value ∙ rw (p.0.first, p.0.second, point, q.0.first, q.0.second, last.0) refl;
+      text = zone_text west hour.value minute.value ∙ same_cons refl (two_text a b hour.value _ _ p.0 (same_cons (sym point) (two_text d e minute.value _ _ q.0 (sym last.0))));
       time = ap (at_day day (s * second_nanos + f)) (sym (zone_offset west hour.value minute.value)) ∙ last.1;
     }
 
@@ -208,12 +220,250 @@ record FractionAt (day : ℤ) (s : ℕ) (cs : List ℕ) (t : Timestamp) : Type 0
   text : print_fraction fraction (print_zone zone) ≡ cs
   time : at_day day (s * second_nanos + nanos_of_fraction fraction) (offset_of zone) ≡ t
 
--- one digit at least stands where a digit was seen
-some_digit : (c : ℕ) (cs ds : List ℕ) (z : Zone) → is_ascii_digit c ≡ true → ds ++ print_zone z ≡ c ∷ cs → 0 < length ds
-some_digit c cs [] universal t e = let same : capital_z ≡ c = cc in absurd (not_digit capital_z c same t)
+point_is : (day : ℤ) (s : ℕ) (cs : List ℕ) (t : Timestamp) → after_point day s cs ≡ Some t → FractionAt day s (full_stop ∷ cs) t
+unfolding after_point
+point_is day s [] t h = absurd (nothing t h)
+point_is day s (c ∷ cs) t h =
+    let one = tested (is_ascii_digit c) _ t h in
+    let step = sym (fraction_more day s 0 9 c cs (omega arith) one.0) ∙ one.1 in
+    let more = digits_are day s (0 + digit_value c * 10 ^ 8) 8 cs t step in
+    let few = more.few in
+    let sum : digit_value c * 10 ^ 8 + fraction_nanos 8 more.digits ≡ 0 + digit_value c * 10 ^ 8 + fraction_nanos 8 more.digits = omega arith in
+    record {
+      fraction = Some (c ∷ more.digits);
+      valid = record { some = omega arith; few = omega arith; digits = and_from (is_ascii_digit c) (all_ascii_digits more.digits) one.0 more.all };
+      zone = more.zone;
+      zone_valid = more.valid;
+      text = ap (λ x. full_stop ∷ c ∷ x) more.text;
+      time = ap (λ x. at_day day (s * second_nanos + x) (offset_of more.zone)) sum ∙ more.time;
+    }
+
+second_is : (day : ℤ) (s : ℕ) (cs : List ℕ) (t : Timestamp) → after_second day s cs ≡ Some t → FractionAt day s cs t
+unfolding after_second
+second_is day s [] t h = absurd (nothing t h)
+second_is day s (c ∷ cs) t h = elim (chosen (c == full_stop) _ _ t h) [
+  | inl point ↦ let mark : c ≡ full_stop = exact_unsigned_eq c full_stop point.0 in rw mark (point_is day s cs t point.1)
+  | inr other ↦
+    let z = zone_is day s 0 (c ∷ cs) t other.1 in
+    record { fraction = None; valid = tt; zone = z.zone; zone_valid = z.valid; text = z.text; time = z.time }
+]
+
+-- ---- the seconds
+
+record SecondsAt (day : ℤ) (s : ℕ) (cs : List ℕ) (t : Timestamp) : Type 0 where
+  seconds : Option Seconds
+  valid : IfSome seconds IsSeconds
+  zone : Zone
+  zone_valid : IsZone zone
+  text : print_seconds seconds (print_zone zone) ≡ cs
+  time : at_day day (s * second_nanos + nanos_of_seconds seconds) (offset_of zone) ≡ t
+
+seconds_are : (day : ℤ) (s : ℕ) (cs : List ℕ) (t : Timestamp) → read_second day s cs ≡ Some t → SecondsAt day s (colon ∷ cs) t
+unfolding read_second
+seconds_are day s [] t h = absurd (nothing t h)
+seconds_are day s (a ∷ []) t h = absurd (nothing t h)
+seconds_are day s (a ∷ b ∷ cs) t h =
+    let number = took (pair_below 60 a b) _ t h in
+    let p = below_is 60 a b number.value number.is in
+    let rest = second_is day (s + number.value) cs t number.after in
+    let sum : s * second_nanos + (number.value * second_nanos + nanos_of_fraction rest.fraction) ≡ (s + number.value) * second_nanos + nanos_of_fraction rest.fraction = omega arith in
+    record {
+      seconds = Some (record { second = number.value; fraction = rest.fraction });
+      valid = record { second = p.1; fraction = rest.valid };
+      zone = rest.zone;
+      zone_valid = rest.zone_valid;
+      text = same_cons refl (two_text a b number.value _ _ p.0 rest.text);
+      time = ap (λ x. at_day day x (offset_of rest.zone)) sum ∙ rest.time;
+    }
+
+minute_is : (day : ℤ) (s : ℕ) (cs : List ℕ) (t : Timestamp) → after_minute day s cs ≡ Some t → SecondsAt day s cs t
+unfolding after_minute
+minute_is day s [] t h = absurd (nothing t h)
+minute_is day s (c ∷ cs) t h = elim (chosen (c == colon) _ _ t h) [
+  | inl point ↦ let mark : c ≡ colon = exact_unsigned_eq c colon point.0 in rw mark (seconds_are day s cs t point.1)
+  | inr other ↦
+    let z = zone_is day s 0 (c ∷ cs) t other.1 in
+    record { seconds = None; valid = tt; zone = z.zone; zone_valid = z.valid; text = z.text; time = z.time }
+]
+
+-- ---- the time
+
+record ClockAt (day : ℤ) (cs : List ℕ) (t : Timestamp) : Type 0 where
+  clock : Clock
+  valid : IsClock clock
+  text : print_clock clock ≡ cs
+  time : at_day day (nanos_of_clock clock) (offset_of clock.zone) ≡ t
+
+record Midnight (day : ℤ) (cs : List ℕ) (t : Timestamp) : Type 0 where
+  text : cs ≡ []
+  time : at_day day 0 (pos 0) ≡ t
+
+midnight : (day : ℤ) (cs : List ℕ) (t : Timestamp) → at_end day 0 0 (pos 0) cs ≡ Some t → Midnight day cs t
+midnight day cs t h = let last = end_is day 0 0 (pos 0) cs t h in record { text = last.0; time = last.1 }
+
+time_is : (day : ℤ) (cs : List ℕ) (t : Timestamp) → read_time day cs ≡ Some t → Midnight day cs t ⊎ ClockAt day cs t
+unfolding read_time
+time_is day [] t h = inl (midnight day [] t h)
+time_is day (a ∷ []) t h = inl (midnight day (a ∷ []) t h)
+time_is day (a ∷ b ∷ []) t h = inl (midnight day (a ∷ b ∷ []) t h)
+time_is day (a ∷ b ∷ c ∷ []) t h = inl (midnight day (a ∷ b ∷ c ∷ []) t h)
+time_is day (a ∷ b ∷ c ∷ d ∷ []) t h = inl (midnight day (a ∷ b ∷ c ∷ d ∷ []) t h)
+time_is day (a ∷ b ∷ c ∷ d ∷ e ∷ cs) t h =
+    let mark = tested (c == colon) _ t h in
+    let hour = took (pair_below 24 a b) _ t mark.1 in
+    let minute = took (pair_below 60 d e) _ t hour.after in
+    let p = below_is 24 a b hour.value hour.is in
+    let q = below_is 60 d e minute.value minute.is in
+    let point : c ≡ colon = exact_unsigned_eq c colon mark.0 in
+    let rest = minute_is day (hour.value * 3600 + minute.value * 60) cs t minute.after in
+    let sum : hour.value * hour_nanos + minute.value * minute_nanos + nanos_of_seconds rest.seconds ≡ (hour.value * 3600 + minute.value * 60) * second_nanos + nanos_of_seconds rest.seconds = omega arith in
+    inr (record {
+      clock = record { hour = hour.value; minute = minute.value; seconds = rest.seconds; zone = rest.zone };
+      valid = record { hour = p.1; minute = q.1; seconds = rest.valid; zone = rest.zone_valid };
+      text = two_text a b hour.value _ _ p.0 (same_cons (sym point) (two_text d e minute.value _ _ q.0 rest.text));
+      time = ap (λ x. at_day day x (offset_of rest.zone)) sum ∙ rest.time;
+    })
+
+-- ---- the date
+
+record NumberOf (y m d : ℕ) (day : ℤ) : Type 0 where
+  date : is_date y m d ≡ true
+  number : days_from_civil (pos y) m d ≡ day
+
+number_by : (y m d : ℕ) (day : ℤ) (b : Bool) → is_date y m d ≡ b → (if b then Some (days_from_civil (pos y) m d) else None) ≡ Some day → NumberOf y m d day
+number_by y m d day true e h = record { date = e; number = same_day _ day h }
   where
-    not_digit : (z c : ℕ) → z ≡ c → is_ascii_digit c ≡ true → ⊥
-    not_digit z c e t = ?
-some_digit c cs [] (ahead h m) t e = ?
-some_digit c cs [] (behind h m) t e = ?
-some_digit c cs (d ∷ ds) z t e = omega arith
+    same_day : (a b : ℤ) → Some a ≡ Some b → a ≡ b
+    same_day a b h = cc
+number_by y m d day false e h = absurd (no_day day h)
+  where
+    no_day : (b : ℤ) → None ≡ Some b → ⊥
+    no_day b h = cc
+
+number_is : (y m d : ℕ) (day : ℤ) → day_number y m d ≡ Some day → NumberOf y m d day
+unfolding day_number
+number_is y m d day h = number_by y m d day (is_date y m d) refl h
+
+-- the text that `front` begins spells the timestamp
+record From (front : List ℕ → List ℕ) (cs : List ℕ) (t : Timestamp) : Type 0 where
+  text : TimestampText
+  valid : IsText text
+  characters : print_text text ≡ front cs
+  timestamp : meaning_of text ≡ t
+
+record DateAlone (y m d : ℕ) (cs : List ℕ) (t : Timestamp) : Type 0 where
+  text : cs ≡ []
+  date : is_date y m d ≡ true
+  time : at_day (days_from_civil (pos y) m d) 0 (pos 0) ≡ t
+
+alone_is : (y m d : ℕ) (cs : List ℕ) (t : Timestamp) → date_alone y m d cs ≡ Some t → DateAlone y m d cs t
+unfolding date_alone
+alone_is y m d cs t h =
+    let day = took (day_number y m d) _ t h in
+    let number = number_is y m d day.value day.is in
+    let last = midnight day.value cs t day.after in
+    record { text = last.text; date = number.date; time = ap (λ x. at_day x 0 (pos 0)) number.number ∙ last.time }
+
+timed : (y m d : ℕ) (day : ℤ) (cs : List ℕ) (t : Timestamp) → NumberOf y m d day → Midnight day cs t ⊎ ClockAt day cs t → From (print_date y m d) (capital_t ∷ cs) t
+timed y m d day cs t number (inl last) = record {
+  text = marked_day y m d;
+  valid = number.date;
+  characters = ap (λ x. print_date y m d (capital_t ∷ x)) (sym last.text);
+  timestamp = ap (λ x. at_day x 0 (pos 0)) number.number ∙ last.time;
+}
+timed y m d day cs t number (inr c) = record {
+  text = at_time y m d c.clock;
+  valid = (number.date, c.valid);
+  characters = ap (λ x. print_date y m d (capital_t ∷ x)) c.text;
+  timestamp = ap (λ x. at_day x (nanos_of_clock c.clock) (offset_of c.clock.zone)) number.number ∙ c.time;
+}
+
+day_is : (y m d : ℕ) (cs : List ℕ) (t : Timestamp) → after_day y m d cs ≡ Some t → From (print_date y m d) cs t
+unfolding after_day
+day_is y m d [] t h =
+    let alone = alone_is y m d [] t h in
+    record { text = on_day y m d; valid = alone.date; characters = refl; timestamp = alone.time }
+day_is y m d (c ∷ cs) t h =
+    let mark = tested (c == capital_t) _ t h in
+    let same : c ≡ capital_t = exact_unsigned_eq c capital_t mark.0 in
+    let day = took (day_number y m d) _ t mark.1 in
+    rw same (timed y m d day.value cs t (number_is y m d day.value day.is) (time_is day.value cs t day.after))
+
+-- a front that goes on with two digits
+behind_two : (front : List ℕ → List ℕ) (a b n : ℕ) (cs : List ℕ) (t : Timestamp) → IsPair a b n → From (λ rest. front (print_two n rest)) cs t → From front (a ∷ b ∷ cs) t
+behind_two front a b n cs t p f = record {
+  text = f.text;
+  valid = f.valid;
+  characters = f.characters ∙ ap front (two_text a b n cs cs p refl);
+  timestamp = f.timestamp;
+}
+
+read_day_is : (y m : ℕ) (cs : List ℕ) (t : Timestamp) → read_day y m cs ≡ Some t → From (λ rest. print_four y (hyphen ∷ print_two m (hyphen ∷ rest))) cs t
+unfolding read_day
+read_day_is y m [] t h = absurd (nothing t h)
+read_day_is y m (a ∷ []) t h = absurd (nothing t h)
+read_day_is y m (a ∷ b ∷ cs) t h =
+    let number = took (pair a b) _ t h in
+    behind_two (λ rest. print_four y (hyphen ∷ print_two m (hyphen ∷ rest))) a b number.value cs t (pair_is a b number.value number.is) (day_is y m number.value cs t number.after)
+
+month_is : (y m : ℕ) (cs : List ℕ) (t : Timestamp) → after_month y m cs ≡ Some t → From (λ rest. print_four y (hyphen ∷ print_two m rest)) cs t
+unfolding after_month
+month_is y m [] t h = absurd (nothing t h)
+month_is y m (c ∷ cs) t h = elim (chosen (c == hyphen) _ _ t h) [
+  | inl more ↦
+    let same : c ≡ hyphen = exact_unsigned_eq c hyphen more.0 in
+    let f = read_day_is y m cs t more.1 in
+    rw same (record { text = f.text; valid = f.valid; characters = f.characters; timestamp = f.timestamp })
+  | inr other ↦
+    let last = tested (c == capital_t) _ t other.1 in
+    let same : c ≡ capital_t = exact_unsigned_eq c capital_t last.0 in
+    let alone = alone_is y m 1 cs t last.1 in
+    rw same (record { text = in_month y m; valid = alone.date; characters = ap (λ x. print_four y (hyphen ∷ print_two m (capital_t ∷ x))) (sym alone.text); timestamp = alone.time })
+]
+
+read_month_is : (y : ℕ) (cs : List ℕ) (t : Timestamp) → read_month y cs ≡ Some t → From (λ rest. print_four y (hyphen ∷ rest)) cs t
+unfolding read_month
+read_month_is y [] t h = absurd (nothing t h)
+read_month_is y (a ∷ []) t h = absurd (nothing t h)
+read_month_is y (a ∷ b ∷ cs) t h =
+    let number = took (pair a b) _ t h in
+    behind_two (λ rest. print_four y (hyphen ∷ rest)) a b number.value cs t (pair_is a b number.value number.is) (month_is y number.value cs t number.after)
+
+year_is : (y : ℕ) (cs : List ℕ) (t : Timestamp) → after_year y cs ≡ Some t → From (print_four y) cs t
+unfolding after_year
+year_is y [] t h = absurd (nothing t h)
+year_is y (c ∷ cs) t h = elim (chosen (c == hyphen) _ _ t h) [
+  | inl more ↦
+    let same : c ≡ hyphen = exact_unsigned_eq c hyphen more.0 in
+    let f = read_month_is y cs t more.1 in
+    rw same (record { text = f.text; valid = f.valid; characters = f.characters; timestamp = f.timestamp })
+  | inr other ↦
+    let last = tested (c == capital_t) _ t other.1 in
+    let same : c ≡ capital_t = exact_unsigned_eq c capital_t last.0 in
+    let alone = alone_is y 1 1 cs t last.1 in
+    rw same (record { text = in_year y; valid = alone.date; characters = ap (λ x. print_four y (capital_t ∷ x)) (sym alone.text); timestamp = alone.time })
+]
+
+-- what is read is spelled
+pub spells : (cs : List ℕ) (t : Timestamp) → spelled_timestamp cs ≡ Some t → Spells cs t
+unfolding spelled_timestamp
+spells [] t h = absurd (nothing t h)
+spells (a ∷ []) t h = absurd (nothing t h)
+spells (a ∷ b ∷ []) t h = absurd (nothing t h)
+spells (a ∷ b ∷ c ∷ []) t h = absurd (nothing t h)
+spells (a ∷ b ∷ c ∷ d ∷ cs) t h =
+    let high = took (pair a b) _ t h in
+    let low = took (pair c d) _ t high.after in
+    let p = pair_is a b high.value high.is in
+    let q = pair_is c d low.value low.is in
+    let bound = q.bound in
+    let f = year_is (high.value * 100 + low.value) cs t low.after in
+    let front : (high.value * 100 + low.value) / 100 ≡ high.value = omega arith in
+    let back : (high.value * 100 + low.value) % 100 ≡ low.value = omega arith in
+    record {
+      text = f.text;
+      valid = f.valid;
+      characters = f.characters ∙ ap (λ n. print_two n (print_two ((high.value * 100 + low.value) % 100) cs)) front ∙ ap (λ n. print_two high.value (print_two n cs)) back
+          ∙ two_text a b high.value _ _ p (two_text c d low.value _ _ q refl);
+      timestamp = f.timestamp;
+    }

@@ -165,7 +165,7 @@ fn digit_nanos(digit: u8, places: u32) -> u32
 }
 
 /// Within the digits behind the point, where so many more may come, and the zone behind them.
-#[tactic(auto, using(crate::proofs::ReadSteps::fraction_end, crate::proofs::ReadSteps::fraction_more, crate::proofs::ReadSteps::fraction_zone, crate::proofs::ReadSteps::fraction_none, crate::proofs::ReadSteps::room))]
+#[tactic(auto, using(crate::proofs::ReadSteps::fraction_end, crate::proofs::ReadSteps::fraction_more, crate::proofs::ReadSteps::fraction_zone, crate::proofs::ReadSteps::fraction_none, crate::proofs::ReadSteps::some_power))]
 fn read_fraction(day: Day, second: u32, nanosecond: u32, places: u32, rest: &[u8]) -> Option<Stamp>
     requires second { second < 86_400 }
     requires places { places ≤ 9 }
