@@ -3,3 +3,4 @@ pub mod Ranges
 pub mod Moves
 pub mod ReadSteps
 pub mod Spelling
+pub mod ReadBack

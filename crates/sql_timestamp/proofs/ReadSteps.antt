@@ -1,5 +1,5 @@
 -- The steps of reading.
-use Rattle.std.proofs.Common.{◌≡◌, ℕ, zero, suc, ◌+◌, ◌-◌, ◌*◌, ◌^◌, ◌<◌, ◌≤◌, Bool, true, false, List, [], ◌∷◌, length, Option, Some, None, refl, sym, ap, ◌∙◌, arith, ℤ, pos, mul-le-mul_right}
+use Rattle.std.proofs.Common.{◌≡◌, ℕ, zero, suc, ◌+◌, ◌-◌, ◌*◌, ◌^◌, ◌<◌, ◌≤◌, Bool, true, false, List, [], ◌∷◌, length, get_or, take, drop, Option, Some, None, refl, sym, ap, ◌∙◌, arith, ℤ, pos, mul-le-mul_right}
 use Rattle.std.specs.Char.{is_ascii_digit, digit_value}
 use Rattle.std.proofs.lemmas.Bool.Decides.{nat_tests}
 use Rattle.std.proofs.Math.Nat.{pow-succ'}
@@ -45,3 +45,10 @@ room d p h =
 
 pub digit_most : (d : ℕ) → is_ascii_digit d ≡ true → d - 48 ≤ 9
 digit_most d t = grind (arith, nat_tests)
+
+pub fraction_taken : (day : ℤ) (s f p v : ℕ) (rest : List ℕ) → 0 < p → 1 ≤ length rest → is_ascii_digit (get_or rest 0 0) ≡ true → v ≡ digit_value (get_or rest 0 0) * 10 ^ (p - 1)
+    → read_fraction day s (f + v) (p - 1) (take (length rest - 1) (drop 1 rest)) ≡ read_fraction day s f p rest
+fraction_taken day s f p v [] some long t e = absurd (omega arith)
+fraction_taken day s f p v (c ∷ cs) some long t e =
+    let n : length (c ∷ cs) - 1 ≡ length cs = omega arith in
+    rw (n, drop-zero cs, take-length cs, e) (sym (fraction_more day s f p c cs some t))
