@@ -1,7 +1,7 @@
 -- What is spelled is read: from a text of the grammar to the function.
-use Rattle.std.proofs.Common.{◌≡◌, ℕ, zero, suc, ◌+◌, ◌-◌, ◌*◌, ◌/◌, ◌%◌, ◌^◌, ◌<◌, ◌≤◌, nat_lt, Bool, true, false, ◌&&◌, ◌==◌, if◌then◌else◌, List, [], ◌∷◌, ◌++◌, length, Option, Some, None, IfSome, refl, sym, ap, ◌∙◌, arith, ℤ, pos, neg_ℤ}
+use Rattle.std.proofs.Common.{◌≡◌, ℕ, zero, suc, ◌+◌, ◌-◌, ◌*◌, ◌/◌, ◌%◌, ◌^◌, ◌<◌, ◌≤◌, nat_lt, Bool, true, false, ◌&&◌, ◌==◌, if◌then◌else◌, List, [], ◌∷◌, ◌++◌, length, length-append, Option, Some, None, IfSome, refl, sym, ap, ◌∙◌, arith, ℤ, pos, neg_ℤ}
 use Rattle.std.specs.Char.{is_ascii_digit, digit_value}
-use Rattle.std.specs.Str.{all_ascii_digits}
+use Rattle.std.specs.Str.{all_ascii_digits, IsAscii}
 use Rattle.std.proofs.lemmas.Bool.Decides.{nat_tests}
 use Rattle.std.proofs.lemmas.Bool.{and_parts}
 use Rattle.jiff_core.specs.Calendar.{days_from_civil}
@@ -180,3 +180,102 @@ text_read (at_time y m d c) v =
 -- what is spelled is read
 pub spelled_read : (cs : List ℕ) (t : Timestamp) → Spells cs t → spelled_timestamp cs ≡ Some t
 spelled_read cs t s = ap spelled_timestamp (sym s.characters) ∙ text_read s.text s.valid ∙ ap Some s.timestamp
+
+-- ---- which texts can be read
+
+-- all characters are ASCII
+abbrev pub AllLow : List ℕ → Type 0
+AllLow [] = Unit {0}
+AllLow (c ∷ cs) = (c < 128) × AllLow cs
+
+two_low : (n : ℕ) (cs : List ℕ) → n < 100 → AllLow cs → AllLow (print_two n cs)
+two_low n cs h low = (omega arith, (omega arith, low))
+
+zone_low : (z : Zone) → IsZone z → AllLow (print_zone z)
+zone_low universal h = (omega arith, tt)
+zone_low (ahead h m) (low, high) = (omega arith, two_low h (colon ∷ print_two m []) (omega arith) (omega arith, two_low m [] (omega arith) tt))
+zone_low (behind h m) (low, high) = (omega arith, two_low h (colon ∷ print_two m []) (omega arith) (omega arith, two_low m [] (omega arith) tt))
+
+digits_low : (ds cs : List ℕ) → all_ascii_digits ds ≡ true → AllLow cs → AllLow (ds ++ cs)
+digits_low [] cs h low = low
+digits_low (c ∷ ds) cs h low =
+    let two = and_parts (is_ascii_digit c) (all_ascii_digits ds) h in
+    (digit_low c two.0, digits_low ds cs two.1 low)
+  where
+    digit_low : (c : ℕ) → is_ascii_digit c ≡ true → c < 128
+    digit_low c t = grind (arith, nat_tests)
+
+fraction_low : (fraction : Option (List ℕ)) (cs : List ℕ) → IfSome fraction IsFraction → AllLow cs → AllLow (print_fraction fraction cs)
+fraction_low None cs h low = low
+fraction_low (Some ds) cs h low = (omega arith, digits_low ds cs h.digits low)
+
+seconds_low : (seconds : Option Seconds) (cs : List ℕ) → IfSome seconds IsSeconds → AllLow cs → AllLow (print_seconds seconds cs)
+seconds_low None cs h low = low
+seconds_low (Some s) cs h low =
+    let few = h.second in
+    (omega arith, two_low s.second (print_fraction s.fraction cs) (omega arith) (fraction_low s.fraction cs h.fraction low))
+
+clock_low : (c : Clock) → IsClock c → AllLow (print_clock c)
+clock_low c v =
+    let a = v.hour in
+    let b = v.minute in
+    two_low c.hour (colon ∷ print_two c.minute (print_seconds c.seconds (print_zone c.zone))) (omega arith)
+    (omega arith, two_low c.minute (print_seconds c.seconds (print_zone c.zone)) (omega arith) (seconds_low c.seconds (print_zone c.zone) v.seconds (zone_low c.zone v.zone)))
+
+four_low : (y : ℕ) (cs : List ℕ) → y ≤ 9_999 → AllLow cs → AllLow (print_four y cs)
+four_low y cs h low = two_low (y / 100) (print_two (y % 100) cs) (omega arith) (two_low (y % 100) cs (omega arith) low)
+
+date_low : (y m d : ℕ) (cs : List ℕ) → is_date y m d ≡ true → AllLow cs → AllLow (print_date y m d cs)
+date_low y m d cs h low =
+    let s = date_open y m d h in
+    let b = s.month_high in
+    let e = s.day_high in
+    let long = days_in_month_bounds (pos y) m in
+    four_low y (hyphen ∷ print_two m (hyphen ∷ print_two d cs)) s.year_high
+    (omega arith, two_low m (hyphen ∷ print_two d cs) (omega arith) (omega arith, two_low d cs (omega arith) low))
+
+text_low : (x : TimestampText) → IsText x → AllLow (print_text x)
+text_low (in_year y) v = four_low y (capital_t ∷ []) (date_open y 1 1 v).year_high (omega arith, tt)
+text_low (in_month y m) v =
+    let s = date_open y m 1 v in
+    let b = s.month_high in
+    four_low y (hyphen ∷ print_two m (capital_t ∷ [])) s.year_high (omega arith, two_low m (capital_t ∷ []) (omega arith) (omega arith, tt))
+text_low (on_day y m d) v = date_low y m d [] v tt
+text_low (marked_day y m d) v = date_low y m d (capital_t ∷ []) v (omega arith, tt)
+text_low (at_time y m d c) v = date_low y m d (capital_t ∷ print_clock c) v.0 (omega arith, clock_low c v.1)
+
+low_ascii : (cs : List ℕ) → AllLow cs → IsAscii cs
+low_ascii [] h i = omega arith
+low_ascii (c ∷ cs) h zero = h.0
+low_ascii (c ∷ cs) h (suc i) = low_ascii cs h.1 i
+
+zone_short : (z : Zone) → length (print_zone z) ≤ 6
+zone_short universal = omega arith
+zone_short (ahead h m) = omega arith
+zone_short (behind h m) = omega arith
+
+fraction_short : (fraction : Option (List ℕ)) (z : Zone) → IfSome fraction IsFraction → length (print_fraction fraction (print_zone z)) ≤ 16
+fraction_short None z h = let e = zone_short z in omega arith
+fraction_short (Some ds) z h =
+    let e = zone_short z in
+    let few = h.few in
+    let sum = length-append ds (print_zone z) in
+    omega arith
+
+seconds_short : (seconds : Option Seconds) (z : Zone) → IfSome seconds IsSeconds → length (print_seconds seconds (print_zone z)) ≤ 19
+seconds_short None z h = let e = zone_short z in omega arith
+seconds_short (Some s) z h = let e = fraction_short s.fraction z h.fraction in omega arith
+
+text_short : (x : TimestampText) → IsText x → length (print_text x) ≤ 35
+text_short (in_year y) v = omega arith
+text_short (in_month y m) v = omega arith
+text_short (on_day y m d) v = omega arith
+text_short (marked_day y m d) v = omega arith
+text_short (at_time y m d c) v = let e = seconds_short c.seconds c.zone v.1.seconds in omega arith
+
+-- what is read is ASCII and at most 35 characters
+pub read_ascii : (cs : List ℕ) (t : Timestamp) → Spells cs t → IsAscii cs
+read_ascii cs t s = let low : AllLow cs = rw s.characters at (text_low s.text s.valid) in low_ascii cs low
+
+pub read_short : (cs : List ℕ) (t : Timestamp) → Spells cs t → length cs ≤ 35
+read_short cs t s = rw s.characters at (text_short s.text s.valid)

@@ -2,6 +2,7 @@
 use Rattle.std.proofs.Common.{◌≡◌, ℕ, zero, suc, ◌+◌, ◌-◌, ◌*◌, ◌^◌, ◌<◌, ◌≤◌, Bool, true, false, List, [], ◌∷◌, length, get_or, take, drop, Option, Some, None, refl, sym, ap, ◌∙◌, arith, ℤ, pos, mul-le-mul_right}
 use Rattle.std.specs.Char.{is_ascii_digit, digit_value}
 use Rattle.std.proofs.lemmas.Bool.Decides.{nat_tests}
+use Rattle.std.proofs.lemmas.List.{take_all}
 use Rattle.std.proofs.Math.Nat.{pow-succ'}
 use Rattle.sql_timestamp.specs.Instants.{Timestamp}
 use Rattle.sql_timestamp.specs.Reading.{at_end, read_zone, read_fraction}
@@ -51,4 +52,4 @@ pub fraction_taken : (day : ℤ) (s f p v : ℕ) (rest : List ℕ) → 0 < p →
 fraction_taken day s f p v [] some long t e = absurd (omega arith)
 fraction_taken day s f p v (c ∷ cs) some long t e =
     let n : length (c ∷ cs) - 1 ≡ length cs = omega arith in
-    rw (n, drop-zero cs, take-length cs, e) (sym (fraction_more day s f p c cs some t))
+    rw (n, take_all (length cs) cs (omega arith), e) (sym (fraction_more day s f p c cs some t))
