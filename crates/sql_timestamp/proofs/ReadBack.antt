@@ -1,7 +1,8 @@
 -- What is spelled is read: from a text of the grammar to the function.
-use Rattle.std.proofs.Common.{◌≡◌, ℕ, zero, suc, ◌+◌, ◌-◌, ◌*◌, ◌/◌, ◌%◌, ◌^◌, ◌<◌, ◌≤◌, nat_lt, Bool, true, false, ◌&&◌, ◌==◌, if◌then◌else◌, List, [], ◌∷◌, ◌++◌, length, length-append, Option, Some, None, IfSome, refl, sym, ap, ◌∙◌, arith, ℤ, pos, neg_ℤ}
+use Rattle.std.proofs.Common.{◌≡◌, ℕ, zero, suc, ◌+◌, ◌-◌, ◌*◌, ◌/◌, ◌%◌, ◌^◌, ◌<◌, ◌≤◌, nat_lt, Bool, true, false, ◌&&◌, ◌==◌, if◌then◌else◌, List, [], ◌∷◌, ◌++◌, length, length-append, slice_index, Option, Some, None, IfSome, refl, sym, ap, ◌∙◌, arith, ℤ, pos, neg_ℤ}
 use Rattle.std.specs.Char.{is_ascii_digit, digit_value}
-use Rattle.std.specs.Str.{all_ascii_digits, IsAscii}
+use Rattle.std.specs.Str.{all_ascii_digits, chars, IsAscii, IsNotAscii, IsUtf8}
+use Rattle.std.proofs.lemmas.Str.{encodes-IsAscii, encodes-chars}
 use Rattle.std.proofs.lemmas.Bool.Decides.{nat_tests}
 use Rattle.std.proofs.lemmas.Bool.{and_parts}
 use Rattle.jiff_core.specs.Calendar.{days_from_civil}
@@ -12,7 +13,7 @@ use Rattle.sql_timestamp.specs.TimestampText.{hyphen, plus_sign, full_stop, colo
 use Rattle.sql_timestamp.specs.Reading.{and_then, pair, pair_below, at_end, signed_offset, read_offset, read_zone, read_fraction, after_point, after_second, read_second, after_minute, read_time, day_number, date_alone, after_day, read_day, after_month, read_month, after_year, spelled_timestamp}
 use Rattle.sql_timestamp.proofs.Dates.{date_open}
 use Rattle.sql_timestamp.proofs.ReadSteps.{fraction_more}
-use Rattle.sql_timestamp.proofs.Spelling.{digit_counts}
+use Rattle.sql_timestamp.proofs.Spelling.{digit_counts, spells}
 
 -- ---- digits
 
@@ -279,3 +280,31 @@ read_ascii cs t s = let low : AllLow cs = rw s.characters at (text_low s.text s.
 
 pub read_short : (cs : List ℕ) (t : Timestamp) → Spells cs t → length cs ≤ 35
 read_short cs t s = rw s.characters at (text_short s.text s.valid)
+
+-- ---- texts that spell nothing
+
+none_by : (cs : List ℕ) (o : Option Timestamp) → spelled_timestamp cs ≡ o → ((t : Timestamp) → Spells cs t → ⊥) → None ≡ spelled_timestamp cs
+none_by cs None e h = sym e
+none_by cs (Some t) e h = absurd (h t (spells cs t e))
+
+none_of : (cs : List ℕ) → ((t : Timestamp) → Spells cs t → ⊥) → None ≡ spelled_timestamp cs
+none_of cs h = none_by cs (spelled_timestamp cs) refl h
+
+pub none_long : (cs : List ℕ) → 36 ≤ length cs → None ≡ spelled_timestamp cs
+none_long cs h = none_of cs (λ t s. let e = read_short cs t s in omega arith)
+
+pub none_high : (cs : List ℕ) (i : ℕ) → 128 ≤ slice_index cs i → None ≡ spelled_timestamp cs
+none_high cs i h = none_of cs (λ t s. let e = read_ascii cs t s i in omega arith)
+
+-- bytes that aren't all ASCII
+pub none_bytes : (bs : List ℕ) → IsUtf8 bs → IsNotAscii bs → None ≡ spelled_timestamp (chars bs)
+none_bytes bs u (i, h) = none_of (chars bs) (λ t s.
+    let low = read_ascii (chars bs) t s in
+    let same : chars bs ≡ bs = sym (encodes-IsAscii (chars bs) low) ∙ encodes-chars bs u in
+    let here : slice_index bs i < 128 = rw same at (low i) in
+    omega arith)
+
+-- the answer's two clauses on the grammar
+pub answer_spells : (o : Option Timestamp) (cs : List ℕ) → o ≡ spelled_timestamp cs → IfSome o (Spells cs)
+answer_spells None cs e = tt
+answer_spells (Some t) cs e = spells cs t (sym e)

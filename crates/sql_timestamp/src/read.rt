@@ -9,6 +9,7 @@ ghost use Rattle.sql_timestamp.specs.Calendars as calendar;
 ghost use Rattle.jiff_core.specs.Calendar.{days_from_civil};
 
 use crate::stamp::Stamp;
+use arrayvec::ArrayVec;
 use jiff_core::civil::{self, Date};
 use text_view::Text;
 
@@ -135,7 +136,7 @@ fn read_zone(day: Day, second: u32, nanosecond: u32, rest: &[u8]) -> Option<Stam
 
 /// What a digit counts before so many more.
 #[inline(always)]
-fn weight(places: u32) -> u32
+pub(crate) fn weight(places: u32) -> u32
     requires { places < 9 }
     ensures value { result ≡ 10 ^ places }
     ensures bound { result ≤ 100_000_000 }
@@ -423,6 +424,49 @@ fn read_bytes(bytes: &[u8]) -> Option<Stamp>
     after_year(u16::from(high) * 100 + u16::from(low), left)
 }
 
+/// The timestamp that a text spells which stands as it is.
+fn read_plain(text: &str) -> Option<Stamp>
+    ensures { result ≡ reading.spelled_timestamp (chars text.now) }
+{
+    if text.is_ascii() {
+        return read_bytes(text.as_bytes());
+    }
+    None
+}
+
+/// The most characters that a timestamp has.
+const LONGEST: usize = 35;
+
+/// The timestamp that a text spells, whose characters are copied first.
+#[inline(never)]
+fn read_shown(text: &Text) -> Option<Stamp>
+    ensures { result ≡ reading.spelled_timestamp text.now }
+{
+    let mut bytes: ArrayVec<u8, LONGEST> = ArrayVec::new();
+    let mut left = text.chars();
+    'characters: while let Some(c) = left.next() {
+        if bytes.is_full() {
+            return None;
+        }
+        let code = c as u32;
+        if code >= 128 {
+            return None;
+        }
+        bytes.push(code as u8);
+    }
+    read_bytes(bytes.as_slice())
+}
+
+/// The timestamp that a text spells.
+fn read_text(text: &Text) -> Option<Stamp>
+    ensures { result ≡ reading.spelled_timestamp text.now }
+{
+    if let Some(plain) = text.as_plain() {
+        return read_plain(plain);
+    }
+    read_shown(text)
+}
+
 impl Stamp {
     /// The timestamp that the text spells: `2024T`, `2024-02T`, `2024-02-29` and `2024-02-29T` in
     /// UTC, or a date and a time with its offset, as `2024-02-29T10:00Z` and
@@ -432,8 +476,7 @@ impl Stamp {
         ensures grammar { IfSome result (Spells text.now) }
         ensures alone { (t : Timestamp) → Spells text.now t → result ≡ Some t }
     {
-        let _ = text;
-        None
+        read_text(text)
     }
 
     /// The timestamp that the text spells, as `read` gives it for its characters.
@@ -442,7 +485,6 @@ impl Stamp {
         ensures grammar { IfSome result (Spells (chars text.now)) }
         ensures alone { (t : Timestamp) → Spells (chars text.now) t → result ≡ Some t }
     {
-        let _ = text;
-        None
+        read_plain(text)
     }
 }
