@@ -3,6 +3,7 @@ use Rattle.std.proofs.Common.{◌≡◌, ℕ, zero, suc, ◌+◌, ◌-◌, ◌<�
 use Rattle.std.specs.Prelude.{int_le}
 use Rattle.std.specs.Int.{IsInRange}
 use Rattle.std.proofs.lemmas.Bool.{cases_lt, and_parts}
+use Rattle.std.proofs.lemmas.Bool.Decides.{nat_tests}
 use Rattle.jiff_core.specs.declared.civil.date.Date.{Date}
 use Rattle.jiff_core.specs.Date.{epoch_day, ordinal}
 use Rattle.jiff_core.specs.Calendar.{days_from_civil, days_in_month, days_in_year, day_count, IsYear, IsCivilDate}
@@ -11,7 +12,7 @@ use Rattle.jiff_core.proofs.MarchLemmas.{day_count-early}
 use Rattle.jiff_core.proofs.CalendarLemmas.{days_from_civil-day_count, day_count-next_month, day_count-later_year, day_count-last_of_year, day_count-day, days_in_month_bounds, days_in_year_bounds}
 use Rattle.jiff_core.proofs.DateLemmas.{days_from_civil-next_month, days_from_civil-next_year, days_from_civil-day, days_from_civil-max, epoch_day_injective, epoch_day-ordinal, epoch_day_range}
 use Rattle.sql_timestamp.specs.Instants.{is_day}
-use Rattle.sql_timestamp.specs.Calendars.{begun, year_start, month_start, year_of, month_of, day_of}
+use Rattle.sql_timestamp.specs.Calendars.{is_date, begun, year_start, month_start, year_of, month_of, day_of}
 
 -- ---- counting starts
 
@@ -228,3 +229,42 @@ date_is_day date low high =
     let place : 1 ≤ ordinal date = let d = date.day_in.0 in omega arith in
     let here = epoch_day-ordinal date in
     is_day-between (epoch_day date) (omega (arith, signed_arith, first_day)) (epoch_day_range date).1
+
+-- ---- the test of a date
+
+-- the parts are a date of the years 1 to 9999
+pub record Stands (y m d : ℕ) : Type 0 where
+  pub year_low : 1 ≤ y
+  pub year_high : y ≤ 9_999
+  pub month_low : 1 ≤ m
+  pub month_high : m ≤ 12
+  pub day_low : 1 ≤ d
+  pub day_high : d ≤ days_in_month (pos y) m
+
+at_most : (a b : ℕ) → nat_le a b ≡ true → a ≤ b
+at_most a b h = grind (arith, nat_tests)
+
+pub date_open : (y m d : ℕ) → is_date y m d ≡ true → Stands y m d
+unfolding is_date
+date_open y m d h =
+    let a = and_parts _ (nat_le d (days_in_month (pos y) m)) h in
+    let b = and_parts _ (nat_le 1 d) a.0 in
+    let e = and_parts _ (nat_le m 12) b.0 in
+    let f = and_parts _ (nat_le 1 m) e.0 in
+    let g = and_parts (nat_le 1 y) (nat_le y 9_999) f.0 in
+    record {
+      year_low = at_most 1 y g.0;
+      year_high = at_most y 9_999 g.1;
+      month_low = at_most 1 m f.1;
+      month_high = at_most m 12 e.1;
+      day_low = at_most 1 d b.1;
+      day_high = at_most d (days_in_month (pos y) m) a.1;
+    }
+
+most : (a b : ℕ) → a ≤ b → nat_le a b ≡ true
+most a b h = grind (arith, nat_tests)
+
+pub date_close : (y m d : ℕ) → Stands y m d → is_date y m d ≡ true
+unfolding is_date
+date_close y m d s =
+    rw (most 1 y s.year_low, most y 9_999 s.year_high, most 1 m s.month_low, most m 12 s.month_high, most 1 d s.day_low, most d (days_in_month (pos y) m) s.day_high) refl
