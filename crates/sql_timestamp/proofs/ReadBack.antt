@@ -18,7 +18,7 @@ use Rattle.sql_timestamp.proofs.Spelling.{digit_counts, spells}
 
 -- ---- digits
 
-digit_is : (k : ℕ) → k < 10 → is_ascii_digit (digit k) ≡ true
+pub digit_is : (k : ℕ) → k < 10 → is_ascii_digit (digit k) ≡ true
 digit_is k h = grind (arith, nat_tests)
 
 pair_read : (n : ℕ) → n < 100 → pair (digit (n / 10)) (digit (n % 10)) ≡ Some n

@@ -2,7 +2,7 @@
 ghost use Rattle.std.specs.Prelude.{◌≡◌, ◌+◌, ◌^◌, ◌<◌, ◌≤◌, ◌++◌, [], ◌∷◌, length, Some, true};
 ghost use Rattle.std.specs.Str.{chars};
 ghost use Rattle.arrayvec.specs.ArrayString.{array_string_len};
-ghost use Rattle.sql_timestamp.specs.Instants.{is_offset};
+ghost use Rattle.sql_timestamp.specs.Instants.{is_offset, is_timestamp};
 ghost use Rattle.sql_timestamp.specs.TimestampText.{digit, capital_t, colon, print_two, print_date, print_fraction, print_zone};
 ghost use Rattle.sql_timestamp.specs.Reading.{spelled_timestamp};
 ghost use Rattle.sql_timestamp.specs.Printing.{fraction_digits, printed_fraction, printed_zone, printed_timestamp};
@@ -91,11 +91,11 @@ fn push_digits(text: &mut StampText, nanosecond: u32)
 {
     let mut places: u32 = 9;
     let mut left = nanosecond;
-    'digits: while left > 0 && places > 0 {
+    'digits: while left > 0 {
         places -= 1;
-        let weight = weight(places);
-        text.push_str(digit_text((left / weight) as u8));
-        left %= weight;
+        let unit = weight(places);
+        text.push_str(digit_text((left / unit) as u8));
+        left %= unit;
     }
 }
 
@@ -143,14 +143,21 @@ impl Stamp {
     }
 
     /// The text of the timestamp.
+    #[tactic(auto, unfolding(crate::specs::Printing::printed_timestamp))]
     fn written(&self) -> StampText
-        ensures { result.bytes ≡ printed_timestamp self.now }
+        ensures text { result.bytes ≡ printed_timestamp self.now }
+        ensures sound { is_timestamp self.now ≡ true }
     {
         let shown = self.shown();
         let date = self.date();
         let mut text = ArrayString::new();
         push_date(&mut text, date.year.unsigned_abs(), date.month, date.day);
-        push_time(&mut text, (shown.second / 3_600) as u8, (shown.second / 60 % 60) as u8, (shown.second % 60) as u8);
+        push_time(
+            &mut text,
+            (shown.second / 3_600) as u8,
+            (shown.second / 60 % 60) as u8,
+            (shown.second % 60) as u8,
+        );
         push_fraction(&mut text, shown.nanosecond);
         push_zone(&mut text, self.offset());
         text
