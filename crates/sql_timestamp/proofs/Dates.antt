@@ -58,10 +58,10 @@ bracket_more : (start : ℕ → ℤ) (day : ℤ) (n k : ℕ) (t : Bool) → Asce
 bracket_more start day n k true up e so_far is =
     let all : n ≤ k = elim (cases_lt k n) [
       | inl less ↦
-        let gap : k + 1 + (n - k) ≡ suc n = omega arith in
-        let reached = rw gap at (later start (suc n) up (n - k) (k + 1) (omega arith) (omega arith)) in
-        let not_yet = so_far.before less in
-        absurd (omega (arith, signed_arith))
+          let gap : k + 1 + (n - k) ≡ suc n = omega arith in
+          let reached = rw gap at (later start (suc n) up (n - k) (k + 1) (omega arith) (omega arith)) in
+          let not_yet = so_far.before less in
+          absurd (omega (arith, signed_arith))
       | inr more ↦ more
     ] in
     let here = so_far.within in
@@ -114,17 +114,21 @@ is_day-between day low high =
     is_day-ends day ∙ rw (at_most_true (negsuc 719_161) day low, at_most_true day (pos 2_932_896) high) refl
 
 years_ascend : Ascends year_start 9999
-years_ascend = record { next = λ k some within.
-    let next : pos (k + 1) ≡ pos k +ℤ pos 1 = omega (arith, signed_arith) in
-    let long = days_in_year_bounds (pos k) in
-    let gap = day_count-later_year (pos k) (pos (k + 1)) (omega (arith, signed_arith)) (omega (arith, signed_arith)) in
-    omega (arith, signed_arith, days_from_civil-day_count) }
+years_ascend = record {
+  next = λ k some within.
+      let next : pos (k + 1) ≡ pos k +ℤ pos 1 = omega (arith, signed_arith) in
+      let long = days_in_year_bounds (pos k) in
+      let gap = day_count-later_year (pos k) (pos (k + 1)) (omega (arith, signed_arith)) (omega (arith, signed_arith)) in
+      omega (arith, signed_arith, days_from_civil-day_count);
+}
 
 months_ascend : (y : ℕ) → Ascends (month_start y) 12
-months_ascend y = record { next = λ k some within.
-    let long = days_in_month_bounds (pos y) k in
-    let gap = day_count-next_month (pos y) k some in
-    omega (arith, signed_arith, days_from_civil-day_count) }
+months_ascend y = record {
+  next = λ k some within.
+      let long = days_in_month_bounds (pos y) k in
+      let gap = day_count-next_month (pos y) k some in
+      omega (arith, signed_arith, days_from_civil-day_count);
+}
 
 -- ---- the date of a day
 
@@ -143,11 +147,11 @@ year_before : (day : ℤ) (y : ℕ) → is_day day ≡ true → Brackets year_st
 year_before day y h b = elim (cases_lt y 9999) [
   | inl less ↦ b.before less
   | inr more ↦
-    let within = b.within in
-    let e : y ≡ 9999 = omega arith in
-    let last = days_from_civil-next_year (pos 9999) (pos 10000) (omega (arith, signed_arith)) refl in
-    let here = day_between day h in
-    rw e (omega (arith, signed_arith, days_from_civil-max))
+      let within = b.within in
+      let e : y ≡ 9999 = omega arith in
+      let last = days_from_civil-next_year (pos 9999) (pos 10000) (omega (arith, signed_arith)) refl in
+      let here = day_between day h in
+      rw e (omega (arith, signed_arith, days_from_civil-max))
 ]
 
 -- and a day of a month before the next one
@@ -155,12 +159,12 @@ month_before : (day : ℤ) (y m : ℕ) → day <ℤ year_start (y + 1) → Brack
 month_before day y m h b = elim (cases_lt m 12) [
   | inl less ↦ b.before less
   | inr more ↦
-    let within = b.within in
-    let e : m ≡ 12 = omega arith in
-    let next : pos (y + 1) ≡ pos y +ℤ pos 1 = omega (arith, signed_arith) in
-    let last = days_from_civil-next_year (pos y) (pos (y + 1)) (omega (arith, signed_arith)) next in
-    let over = days_from_civil-next_month (pos y) 12 31 (omega arith) refl in
-    rw e (omega (arith, signed_arith))
+      let within = b.within in
+      let e : m ≡ 12 = omega arith in
+      let next : pos (y + 1) ≡ pos y +ℤ pos 1 = omega (arith, signed_arith) in
+      let last = days_from_civil-next_year (pos y) (pos (y + 1)) (omega (arith, signed_arith)) next in
+      let over = days_from_civil-next_month (pos y) 12 31 (omega arith) refl in
+      rw e (omega (arith, signed_arith))
 ]
 
 date_from : (day : ℤ) (y m d : ℕ) → Brackets year_start day 9999 y → Brackets (month_start y) day 12 m → day <ℤ month_start y (m + 1)

@@ -4,3 +4,4 @@ pub mod Moves
 pub mod ReadSteps
 pub mod Spelling
 pub mod ReadBack
+pub mod Printed

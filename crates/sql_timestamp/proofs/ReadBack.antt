@@ -5,6 +5,7 @@ use Rattle.std.specs.Str.{all_ascii_digits, chars, IsAscii, IsNotAscii, IsUtf8}
 use Rattle.std.proofs.lemmas.Str.{encodes-IsAscii, encodes-chars}
 use Rattle.std.proofs.lemmas.Bool.Decides.{nat_tests}
 use Rattle.std.proofs.lemmas.Bool.{and_parts}
+use Rattle.std.proofs.lemmas.Map.Views.{exact_unsigned_eq}
 use Rattle.jiff_core.specs.Calendar.{days_from_civil}
 use Rattle.jiff_core.proofs.CalendarLemmas.{days_in_month_bounds}
 use Rattle.sql_timestamp.specs.Instants.{Timestamp, at_day, second_nanos, minute_nanos, hour_nanos}
@@ -17,7 +18,7 @@ use Rattle.sql_timestamp.proofs.Spelling.{digit_counts, spells}
 
 -- ---- digits
 
-digit_is : (k : ℕ) → k < 10 → is_ascii_digit (digit k) ≡ true
+pub digit_is : (k : ℕ) → k < 10 → is_ascii_digit (digit k) ≡ true
 digit_is k h = grind (arith, nat_tests)
 
 pair_read : (n : ℕ) → n < 100 → pair (digit (n / 10)) (digit (n % 10)) ≡ Some n
@@ -308,3 +309,21 @@ none_bytes bs u (i, h) = none_of (chars bs) (λ t s.
 pub answer_spells : (o : Option Timestamp) (cs : List ℕ) → o ≡ spelled_timestamp cs → IfSome o (Spells cs)
 answer_spells None cs e = tt
 answer_spells (Some t) cs e = spells cs t (sym e)
+
+at_place : (xs rest : List ℕ) (c : ℕ) → slice_index (xs ++ c ∷ rest) (length xs) ≡ c
+at_place [] rest c = refl
+at_place (x ∷ xs) rest c = at_place xs rest c
+
+pub high_none : (xs left rest cs : List ℕ) (c : ℕ) → xs ++ left ≡ cs → left ≡ c ∷ rest → 128 ≤ c → None ≡ spelled_timestamp cs
+high_none xs left rest cs c e f h =
+    let all : xs ++ c ∷ rest ≡ cs = ap (λ l. xs ++ l) (sym f) ∙ e in
+    let here : slice_index cs (length xs) ≡ c = ap (λ l. slice_index l (length xs)) (sym all) ∙ at_place xs rest c in
+    none_high cs (length xs) (omega arith)
+
+pub full_none : (xs left rest cs : List ℕ) (c : ℕ) → xs ++ left ≡ cs → left ≡ c ∷ rest → (length xs == 35) ≡ true → None ≡ spelled_timestamp cs
+full_none xs left rest cs c e f h =
+    let all : xs ++ c ∷ rest ≡ cs = ap (λ l. xs ++ l) (sym f) ∙ e in
+    let full : length xs ≡ 35 = exact_unsigned_eq (length xs) 35 h in
+    let sum = length-append xs (c ∷ rest) in
+    let same : length (xs ++ c ∷ rest) ≡ length cs = ap length all in
+    none_long cs (omega arith)

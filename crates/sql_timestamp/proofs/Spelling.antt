@@ -158,15 +158,15 @@ unfolding read_zone
 zone_is day s f [] t h = absurd (nothing t h)
 zone_is day s f (c ∷ cs) t h = elim (chosen (c == capital_z) _ _ t h) [
   | inl z ↦
-    let last = end_is day s f (pos 0) cs t z.1 in
-    let mark : c ≡ capital_z = exact_unsigned_eq c capital_z z.0 in
-    record { zone = universal; valid = tt; text = rw (mark, last.0) refl; time = last.1 }
+      let last = end_is day s f (pos 0) cs t z.1 in
+      let mark : c ≡ capital_z = exact_unsigned_eq c capital_z z.0 in
+      record { zone = universal; valid = tt; text = rw (mark, last.0) refl; time = last.1 }
   | inr other ↦ elim (chosen (c == plus_sign) _ _ t other.1) [
     | inl east ↦ let mark : c ≡ plus_sign = exact_unsigned_eq c plus_sign east.0 in rw mark (offset_is day s f false cs t east.1)
     | inr rest ↦
-      let west = tested (c == hyphen) _ t rest.1 in
-      let mark : c ≡ hyphen = exact_unsigned_eq c hyphen west.0 in
-      rw mark (offset_is day s f true cs t west.1)
+        let west = tested (c == hyphen) _ t rest.1 in
+        let mark : c ≡ hyphen = exact_unsigned_eq c hyphen west.0 in
+        rw mark (offset_is day s f true cs t west.1)
   ]
 ]
 
@@ -197,18 +197,18 @@ digits_are day s f zero cs t h = no_digits day s f zero cs t h
 digits_are day s f (suc k) [] t h = absurd (nothing t h)
 digits_are day s f (suc k) (c ∷ cs) t h = elim (chosen (is_ascii_digit c) _ _ t h) [
   | inl digit_here ↦
-    let more = digits_are day s (f + digit_value c * 10 ^ k) k cs t digit_here.1 in
-    let few = more.few in
-    let sum : f + (digit_value c * 10 ^ k + fraction_nanos k more.digits) ≡ f + digit_value c * 10 ^ k + fraction_nanos k more.digits = omega arith in
-    record {
-      digits = c ∷ more.digits;
-      few = omega arith;
-      all = and_from (is_ascii_digit c) (all_ascii_digits more.digits) digit_here.0 more.all;
-      zone = more.zone;
-      valid = more.valid;
-      text = ap (λ x. c ∷ x) more.text;
-      time = rw sum more.time;
-    }
+      let more = digits_are day s (f + digit_value c * 10 ^ k) k cs t digit_here.1 in
+      let few = more.few in
+      let sum : f + (digit_value c * 10 ^ k + fraction_nanos k more.digits) ≡ f + digit_value c * 10 ^ k + fraction_nanos k more.digits = omega arith in
+      record {
+        digits = c ∷ more.digits;
+        few = omega arith;
+        all = and_from (is_ascii_digit c) (all_ascii_digits more.digits) digit_here.0 more.all;
+        zone = more.zone;
+        valid = more.valid;
+        text = ap (λ x. c ∷ x) more.text;
+        time = rw sum more.time;
+      }
   | inr other ↦ no_digits day s f (suc k) (c ∷ cs) t other.1
 ]
 
@@ -244,8 +244,8 @@ second_is day s [] t h = absurd (nothing t h)
 second_is day s (c ∷ cs) t h = elim (chosen (c == full_stop) _ _ t h) [
   | inl point ↦ let mark : c ≡ full_stop = exact_unsigned_eq c full_stop point.0 in rw mark (point_is day s cs t point.1)
   | inr other ↦
-    let z = zone_is day s 0 (c ∷ cs) t other.1 in
-    record { fraction = None; valid = tt; zone = z.zone; zone_valid = z.valid; text = z.text; time = z.time }
+      let z = zone_is day s 0 (c ∷ cs) t other.1 in
+      record { fraction = None; valid = tt; zone = z.zone; zone_valid = z.valid; text = z.text; time = z.time }
 ]
 
 -- ---- the seconds
@@ -282,8 +282,8 @@ minute_is day s [] t h = absurd (nothing t h)
 minute_is day s (c ∷ cs) t h = elim (chosen (c == colon) _ _ t h) [
   | inl point ↦ let mark : c ≡ colon = exact_unsigned_eq c colon point.0 in rw mark (seconds_are day s cs t point.1)
   | inr other ↦
-    let z = zone_is day s 0 (c ∷ cs) t other.1 in
-    record { seconds = None; valid = tt; zone = z.zone; zone_valid = z.valid; text = z.text; time = z.time }
+      let z = zone_is day s 0 (c ∷ cs) t other.1 in
+      record { seconds = None; valid = tt; zone = z.zone; zone_valid = z.valid; text = z.text; time = z.time }
 ]
 
 -- ---- the time
@@ -411,14 +411,14 @@ unfolding after_month
 month_is y m [] t h = absurd (nothing t h)
 month_is y m (c ∷ cs) t h = elim (chosen (c == hyphen) _ _ t h) [
   | inl more ↦
-    let same : c ≡ hyphen = exact_unsigned_eq c hyphen more.0 in
-    let f = read_day_is y m cs t more.1 in
-    rw same (record { text = f.text; valid = f.valid; characters = f.characters; timestamp = f.timestamp })
+      let same : c ≡ hyphen = exact_unsigned_eq c hyphen more.0 in
+      let f = read_day_is y m cs t more.1 in
+      rw same (record { text = f.text; valid = f.valid; characters = f.characters; timestamp = f.timestamp })
   | inr other ↦
-    let last = tested (c == capital_t) _ t other.1 in
-    let same : c ≡ capital_t = exact_unsigned_eq c capital_t last.0 in
-    let alone = alone_is y m 1 cs t last.1 in
-    rw same (record { text = in_month y m; valid = alone.date; characters = ap (λ x. print_four y (hyphen ∷ print_two m (capital_t ∷ x))) (sym alone.text); timestamp = alone.time })
+      let last = tested (c == capital_t) _ t other.1 in
+      let same : c ≡ capital_t = exact_unsigned_eq c capital_t last.0 in
+      let alone = alone_is y m 1 cs t last.1 in
+      rw same (record { text = in_month y m; valid = alone.date; characters = ap (λ x. print_four y (hyphen ∷ print_two m (capital_t ∷ x))) (sym alone.text); timestamp = alone.time })
 ]
 
 read_month_is : (y : ℕ) (cs : List ℕ) (t : Timestamp) → read_month y cs ≡ Some t → From (λ rest. print_four y (hyphen ∷ rest)) cs t
@@ -434,14 +434,14 @@ unfolding after_year
 year_is y [] t h = absurd (nothing t h)
 year_is y (c ∷ cs) t h = elim (chosen (c == hyphen) _ _ t h) [
   | inl more ↦
-    let same : c ≡ hyphen = exact_unsigned_eq c hyphen more.0 in
-    let f = read_month_is y cs t more.1 in
-    rw same (record { text = f.text; valid = f.valid; characters = f.characters; timestamp = f.timestamp })
+      let same : c ≡ hyphen = exact_unsigned_eq c hyphen more.0 in
+      let f = read_month_is y cs t more.1 in
+      rw same (record { text = f.text; valid = f.valid; characters = f.characters; timestamp = f.timestamp })
   | inr other ↦
-    let last = tested (c == capital_t) _ t other.1 in
-    let same : c ≡ capital_t = exact_unsigned_eq c capital_t last.0 in
-    let alone = alone_is y 1 1 cs t last.1 in
-    rw same (record { text = in_year y; valid = alone.date; characters = ap (λ x. print_four y (capital_t ∷ x)) (sym alone.text); timestamp = alone.time })
+      let last = tested (c == capital_t) _ t other.1 in
+      let same : c ≡ capital_t = exact_unsigned_eq c capital_t last.0 in
+      let alone = alone_is y 1 1 cs t last.1 in
+      rw same (record { text = in_year y; valid = alone.date; characters = ap (λ x. print_four y (capital_t ∷ x)) (sym alone.text); timestamp = alone.time })
 ]
 
 -- what is read is spelled

@@ -5,7 +5,7 @@ use Rattle.sql_timestamp.specs.Calendars.{year_of, month_of, day_of}
 use Rattle.sql_timestamp.specs.TimestampText.{TimestampText, at_time, Zone, universal, ahead, behind, Seconds, Clock, digit, print_text}
 
 -- the k digits of f that stand behind the point, without zeros at their end
-abbrev pub fraction_digits : ℕ → ℕ → List ℕ
+unfoldable pub fraction_digits : ℕ → ℕ → List ℕ
 fraction_digits zero f = []
 fraction_digits (suc k) f = if f == 0 then [] else digit (f / 10 ^ k) ∷ fraction_digits k (f % 10 ^ k)
 
@@ -25,7 +25,7 @@ printed_clock nanos offset = record {
   hour = nanos / hour_nanos;
   minute = nanos / minute_nanos % 60;
   seconds = Some (record { second = nanos / second_nanos % 60; fraction = printed_fraction (nanos % second_nanos) });
-  zone = printed_zone offset
+  zone = printed_zone offset;
 }
 
 -- the text of what the clock shows, with its offset

@@ -33,7 +33,7 @@ signed_offset false h m = pos (h * 60 + m)
 unfoldable pub read_offset : ℤ → ℕ → ℕ → Bool → List ℕ → Option Timestamp
 read_offset day s f west (a ∷ b ∷ c ∷ d ∷ e ∷ cs) =
     if c == colon then
-      and_then (pair_below 24 a b) (λ h. and_then (pair_below 60 d e) (λ m. at_end day s f (signed_offset west h m) cs))
+    and_then (pair_below 24 a b) (λ h. and_then (pair_below 60 d e) (λ m. at_end day s f (signed_offset west h m) cs))
     else None
 read_offset day s f west _ = None
 
@@ -76,7 +76,7 @@ after_minute day s (c ∷ cs) = if c == colon then read_second day s cs else rea
 unfoldable pub read_time : ℤ → List ℕ → Option Timestamp
 read_time day (a ∷ b ∷ c ∷ d ∷ e ∷ cs) =
     if c == colon then
-      and_then (pair_below 24 a b) (λ h. and_then (pair_below 60 d e) (λ m. after_minute day (h * 3600 + m * 60) cs))
+    and_then (pair_below 24 a b) (λ h. and_then (pair_below 60 d e) (λ m. after_minute day (h * 3600 + m * 60) cs))
     else None
 read_time day cs = at_end day 0 0 (pos 0) cs
 

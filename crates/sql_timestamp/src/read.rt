@@ -78,14 +78,28 @@ fn signed_offset(west: bool, hour: u8, minute: u8) -> i16
 
 /// The timestamp at an offset of so many hours and minutes, at the end of the text.
 #[inline(always)]
-fn at_offset(day: Day, second: u32, nanosecond: u32, west: bool, hour: u8, minute: u8, rest: &[u8]) -> Option<Stamp>
+fn at_offset(
+    day: Day,
+    second: u32,
+    nanosecond: u32,
+    west: bool,
+    hour: u8,
+    minute: u8,
+    rest: &[u8],
+) -> Option<Stamp>
     requires second { second < 86_400 }
     requires nanosecond { nanosecond < second_nanos }
     requires hour { hour < 24 }
     requires minute { minute < 60 }
     ensures { result ≡ reading.at_end day.number second nanosecond (reading.signed_offset west hour minute) rest.now }
 {
-    at_end(day, second, nanosecond, signed_offset(west, hour, minute), rest)
+    at_end(
+        day,
+        second,
+        nanosecond,
+        signed_offset(west, hour, minute),
+        rest,
+    )
 }
 
 /// Behind the sign of an offset.
@@ -278,7 +292,12 @@ fn is_date(year: u16, month: u8, day: u8) -> bool
     requires { year ≤ 9_999 }
     ensures { result ≡ calendar.is_date year month day }
 {
-    year >= 1 && year <= 9_999 && month >= 1 && month <= 12 && day >= 1 && day <= civil::days_in_month(year as i16, month)
+    year >= 1
+        && year <= 9_999
+        && month >= 1
+        && month <= 12
+        && day >= 1
+        && day <= civil::days_in_month(year as i16, month)
 }
 
 /// The day of a date.

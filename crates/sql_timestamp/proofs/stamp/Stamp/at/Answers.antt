@@ -9,8 +9,8 @@ pub invariant_of-result : goal.invariant_of-result
 invariant_of-result c = (
   c.requires.nanosecond,
   let days = day_between c.args.day c.requires.day in
-  let ends = offset_between c.args.offset c.requires.offset in
-  at_shows c.args.day _ c.args.offset _ c.args.second c.requires.day c.requires.second c.requires.offset (kept w16 c.args.offset c.ranges.offset) (omega (arith, signed_arith)),
+      let ends = offset_between c.args.offset c.requires.offset in
+      at_shows c.args.day _ c.args.offset _ c.args.second c.requires.day c.requires.second c.requires.offset (kept w16 c.args.offset c.ranges.offset) (omega (arith, signed_arith)),
 )
 
 pub returns : goal.returns

@@ -27,7 +27,7 @@ returns c =
     let sum = c.in-Some-checked_add.ensures in
     let total : FitsSigned w64 c.in-Some-checked_add.seconds = rw sum.1 sum.0 in
     let added : c.in-Some-checked_add.seconds ≡ c.self.inside.seconds +ℤ c.args.n *ℤ c.args.unit =
-      rw (kept w64 c.self.inside.seconds (omega (arith, signed_arith)), kept w64 c.in-Some.more fits, product) at sum.1 in
+    rw (kept w64 c.self.inside.seconds (omega (arith, signed_arith)), kept w64 c.in-Some.more fits, product) at sum.1 in
     c.of.ensures
     ∙ made_moved (to_z w64 (of_z w64 c.in-Some-checked_add.seconds)) _ c.self.inside.seconds c.self.inside.offset (c.args.n *ℤ c.args.unit) c.self.inside.nanoseconds c.args.self.now c.self.view_is
     (kept w64 c.in-Some-checked_add.seconds total ∙ added) (kept w16 c.self.inside.offset (omega (arith, signed_arith)))

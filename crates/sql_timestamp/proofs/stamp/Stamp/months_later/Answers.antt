@@ -20,7 +20,7 @@ returns-in_default-checked_add c =
     let day : is_day (local_day c.args.self.now) ≡ true = rw c.shown-shown.ensures.day at c.shown-shown.ensures.year in
     let b = number_between (local_day c.args.self.now) day in
     let first : c.month_number-first.result ≡ month_number (local_day c.args.self.now) =
-      number_is (local_day c.args.self.now) c.date-date.result.year c.month_number-first.result c.date-date.result.month c.date-date.ensures.year c.date-date.ensures.month c.month_number-first.ensures.value in
+    number_is (local_day c.args.self.now) c.date-date.result.year c.month_number-first.result c.date-date.result.month c.date-date.ensures.year c.date-date.ensures.month c.month_number-first.ensures.value in
     let small : FitsSigned w64 c.month_number-first.result = omega (arith, signed_arith) in
     let product : c.in-Some.more ≡ c.args.n *ℤ c.args.unit = rw (kept w64 c.args.n c.ranges.n, kept w64 c.args.unit c.ranges.unit) at c.in-Some.ensures.1 in
     let fits : FitsSigned w64 c.in-Some.more = rw c.in-Some.ensures.1 c.in-Some.ensures.0 in
@@ -33,14 +33,14 @@ returns-in_default-month_at c =
     let day : is_day (local_day c.args.self.now) ≡ true = rw c.shown-shown.ensures.day at c.shown-shown.ensures.year in
     let b = number_between (local_day c.args.self.now) day in
     let first : c.month_number-first.result ≡ month_number (local_day c.args.self.now) =
-      number_is (local_day c.args.self.now) c.date-date.result.year c.month_number-first.result c.date-date.result.month c.date-date.ensures.year c.date-date.ensures.month c.month_number-first.ensures.value in
+    number_is (local_day c.args.self.now) c.date-date.result.year c.month_number-first.result c.date-date.result.month c.date-date.ensures.year c.date-date.ensures.month c.month_number-first.ensures.value in
     let small : FitsSigned w64 c.month_number-first.result = omega (arith, signed_arith) in
     let product : c.in-Some.more ≡ c.args.n *ℤ c.args.unit = rw (kept w64 c.args.n c.ranges.n, kept w64 c.args.unit c.ranges.unit) at c.in-Some.ensures.1 in
     let fits : FitsSigned w64 c.in-Some.more = rw c.in-Some.ensures.1 c.in-Some.ensures.0 in
     let sum = c.in-Some-checked_add.ensures in
     let total : FitsSigned w64 c.in-Some-checked_add.number = rw sum.1 sum.0 in
     let number : to_z w64 (of_z w64 c.in-Some-checked_add.number) ≡ month_number (local_day c.args.self.now) +ℤ c.args.n *ℤ c.args.unit =
-      kept w64 c.in-Some-checked_add.number total ∙ (rw (kept w64 c.month_number-first.result small, kept w64 c.in-Some.more fits, first, product) at sum.1) in
+    kept w64 c.in-Some-checked_add.number total ∙ (rw (kept w64 c.month_number-first.result small, kept w64 c.in-Some.more fits, first, product) at sum.1) in
     no_month c.args.self.now (c.args.n *ℤ c.args.unit) (to_z w64 (of_z w64 c.in-Some-checked_add.number)) number c.in_default-month_at.ensures
 
 pub returns : goal.returns
@@ -48,14 +48,14 @@ returns c =
     let day : is_day (local_day c.args.self.now) ≡ true = rw c.shown-shown.ensures.day at c.shown-shown.ensures.year in
     let b = number_between (local_day c.args.self.now) day in
     let first : c.month_number-first.result ≡ month_number (local_day c.args.self.now) =
-      number_is (local_day c.args.self.now) c.date-date.result.year c.month_number-first.result c.date-date.result.month c.date-date.ensures.year c.date-date.ensures.month c.month_number-first.ensures.value in
+    number_is (local_day c.args.self.now) c.date-date.result.year c.month_number-first.result c.date-date.result.month c.date-date.ensures.year c.date-date.ensures.month c.month_number-first.ensures.value in
     let small : FitsSigned w64 c.month_number-first.result = omega (arith, signed_arith) in
     let product : c.in-Some.more ≡ c.args.n *ℤ c.args.unit = rw (kept w64 c.args.n c.ranges.n, kept w64 c.args.unit c.ranges.unit) at c.in-Some.ensures.1 in
     let fits : FitsSigned w64 c.in-Some.more = rw c.in-Some.ensures.1 c.in-Some.ensures.0 in
     let sum = c.in-Some-checked_add.ensures in
     let total : FitsSigned w64 c.in-Some-checked_add.number = rw sum.1 sum.0 in
     let number : to_z w64 (of_z w64 c.in-Some-checked_add.number) ≡ month_number (local_day c.args.self.now) +ℤ c.args.n *ℤ c.args.unit =
-      kept w64 c.in-Some-checked_add.number total ∙ (rw (kept w64 c.month_number-first.result small, kept w64 c.in-Some.more fits, first, product) at sum.1) in
+    kept w64 c.in-Some-checked_add.number total ∙ (rw (kept w64 c.month_number-first.result small, kept w64 c.in-Some.more fits, first, product) at sum.1) in
     let days = day_between c.day_in-day.result c.day_in-day.ensures.year in
     let low = c.offset.ensures.low in
     let high = c.offset.ensures.high in
