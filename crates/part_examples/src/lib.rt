@@ -16,3 +16,7 @@ mod texts;
 mod thrift;
 #[cfg(test)]
 mod tokens;
+#[cfg(test)]
+mod value_texts;
+#[cfg(test)]
+mod values;
