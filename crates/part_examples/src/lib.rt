@@ -13,4 +13,6 @@ mod texts;
 #[cfg(test)]
 mod thrift;
 #[cfg(test)]
+mod timestamps;
+#[cfg(test)]
 mod tokens;
