@@ -15,6 +15,8 @@ mod texts;
 #[cfg(test)]
 mod thrift;
 #[cfg(test)]
+mod timestamps;
+#[cfg(test)]
 mod tokens;
 #[cfg(test)]
 mod value_texts;
