@@ -1,6 +1,2 @@
-//! The text of each query, and the law that it spells that very query.
+//! The text of each query.
 #![tactic(auto)]
-
-mod laws;
-
-pub use laws::printed_queries_spell;
