@@ -11,6 +11,8 @@ mod json;
 #[cfg(test)]
 mod masks;
 #[cfg(test)]
+mod printed_queries;
+#[cfg(test)]
 mod texts;
 #[cfg(test)]
 mod thrift;
