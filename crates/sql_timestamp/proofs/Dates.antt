@@ -1,18 +1,17 @@
 -- The year, the month and the day of a day number are a date of that number, and the only one.
-use Rattle.std.proofs.Common.{◌≡◌, ℕ, zero, suc, ◌+◌, ◌-◌, ◌<◌, ◌≤◌, Bool, true, false, ◌&&◌, nat_le, nat_lt, if◌then◌else◌, refl, sym, ap, ◌∙◌, inl, inr, arith, ℤ, pos, negsuc, neg_ℤ, ◌+ℤ◌, ◌-ℤ◌, ◌<ℤ◌, ◌≤ℤ◌, unsigned_abs, IsTrue}
+use Rattle.std.proofs.Common.{◌≡◌, ℕ, zero, suc, ◌+◌, ◌-◌, ◌<◌, ◌≤◌, Bool, true, false, ◌&&◌, nat_le, refl, sym, ap, ◌∙◌, inl, inr, arith, ℤ, pos, negsuc, ◌+ℤ◌, ◌-ℤ◌, ◌<ℤ◌, ◌≤ℤ◌, unsigned_abs}
 use Rattle.std.specs.Prelude.{int_le}
-use Rattle.std.specs.Int.{IsInRange}
 use Rattle.std.proofs.lemmas.Bool.{cases_lt, and_parts}
 use Rattle.std.proofs.lemmas.Bool.Decides.{nat_tests}
 use Rattle.jiff_core.specs.declared.civil.date.Date.{Date}
 use Rattle.jiff_core.specs.Date.{epoch_day, ordinal}
-use Rattle.jiff_core.specs.Calendar.{days_from_civil, days_in_month, days_in_year, day_count, IsYear, IsCivilDate}
+use Rattle.jiff_core.specs.Calendar.{days_from_civil, days_in_month}
 use Rattle.jiff_core.proofs.SignedLemmas.{signed_arith, one_part}
 use Rattle.jiff_core.proofs.MarchLemmas.{day_count-early}
-use Rattle.jiff_core.proofs.CalendarLemmas.{days_from_civil-day_count, day_count-next_month, day_count-later_year, day_count-last_of_year, day_count-day, days_in_month_bounds, days_in_year_bounds}
+use Rattle.jiff_core.proofs.CalendarLemmas.{days_from_civil-day_count, day_count-next_month, day_count-later_year, days_in_month_bounds, days_in_year_bounds}
 use Rattle.jiff_core.proofs.DateLemmas.{days_from_civil-next_month, days_from_civil-next_year, days_from_civil-day, days_from_civil-max, epoch_day_injective, epoch_day-ordinal, epoch_day_range}
 use Rattle.sql_timestamp.specs.Instants.{is_day}
-use Rattle.sql_timestamp.specs.Calendars.{is_date, begun, year_start, month_start, year_of, month_of, day_of}
+use Rattle.sql_timestamp.specs.Calendars.{IsDateOf, is_date, begun, year_start, month_start, year_of, month_of, day_of}
 
 -- ---- counting starts
 
@@ -131,16 +130,6 @@ months_ascend y = record {
 }
 
 -- ---- the date of a day
-
--- the year y, the month m and the day d are a date, and its day number is this one
-pub record IsDateOf (day : ℤ) (y m d : ℕ) : Type 0 where
-  pub year_low : 1 ≤ y
-  pub year_high : y ≤ 9999
-  pub month_low : 1 ≤ m
-  pub month_high : m ≤ 12
-  pub day_low : 1 ≤ d
-  pub day_high : d ≤ days_in_month (pos y) m
-  pub number : days_from_civil (pos y) m d ≡ day
 
 -- a day of a year lies before the next one
 year_before : (day : ℤ) (y : ℕ) → is_day day ≡ true → Brackets year_start day 9999 y → day <ℤ year_start (y + 1)
@@ -272,3 +261,19 @@ pub date_close : (y m d : ℕ) → Stands y m d → is_date y m d ≡ true
 unfolding is_date
 date_close y m d s =
     rw (most 1 y s.year_low, most y 9_999 s.year_high, most 1 m s.month_low, most m 12 s.month_high, most 1 d s.day_low, most d (days_in_month (pos y) m) s.day_high) refl
+
+-- a date with that number has no other parts
+pub date_alone : (day : ℤ) (y m d : ℕ) → is_day day ≡ true → IsDateOf day y m d → (y ≡ year_of day) × (m ≡ month_of day) × (d ≡ day_of day)
+date_alone day y m d h is =
+    let a = is.year_low in
+    let b = is.year_high in
+    let date : Date = record {
+      year = pos y;
+      month = m;
+      day = d;
+      year_in = (omega (arith, signed_arith), omega (arith, signed_arith));
+      month_in = (is.month_low, is.month_high);
+      day_in = (is.day_low, is.day_high);
+    } in
+    let parts = parts_of_date date day h is.number in
+    (ap unsigned_abs parts.0, parts.1, parts.2)

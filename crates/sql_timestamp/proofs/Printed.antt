@@ -1,18 +1,17 @@
 -- What is printed is read as the same timestamp.
-use Rattle.std.proofs.Common.{◌≡◌, ℕ, zero, suc, ◌+◌, ◌-◌, ◌*◌, ◌/◌, ◌%◌, ◌^◌, ◌<◌, ◌≤◌, Bool, true, false, ◌&&◌, ◌==◌, if◌then◌else◌, List, [], ◌∷◌, ◌++◌, length, append_assoc, append-nil, Option, Some, None, IfSome, refl, sym, ap, ◌∙◌, arith, ℤ, pos, negsuc, neg_ℤ, ◌+ℤ◌, ◌-ℤ◌, ◌*ℤ◌, ◌≤ℤ◌}
+use Rattle.std.proofs.Common.{◌≡◌, ℕ, zero, suc, ◌+◌, ◌-◌, ◌*◌, ◌/◌, ◌%◌, ◌^◌, ◌<◌, ◌≤◌, Bool, true, false, ◌==◌, if◌then◌else◌, List, [], ◌∷◌, ◌++◌, length, append_assoc, append-nil, Option, Some, None, IfSome, refl, sym, ap, ◌∙◌, arith, ℤ, pos, negsuc, neg_ℤ, ◌+ℤ◌, ◌-ℤ◌, ◌*ℤ◌, ◌≤ℤ◌}
 use Rattle.std.specs.Char.{is_ascii_digit, digit_value}
-use Rattle.std.specs.Str.{all_ascii_digits, chars, IsAscii}
+use Rattle.std.specs.Str.{all_ascii_digits, chars}
 use Rattle.std.proofs.lemmas.Bool.Decides.{nat_tests}
 use Rattle.std.proofs.lemmas.Bool.{and_from}
 use Rattle.std.proofs.lemmas.Map.Views.{exact_unsigned_eq}
 use Rattle.std.proofs.lemmas.Nat.{div-add-mod'}
 use Rattle.std.proofs.lemmas.Str.{chars-IsAscii}
 use Rattle.std.proofs.Math.Nat.{pow-succ', div-lt_iff_lt-mul, mod-lt}
-use Rattle.jiff_core.specs.Calendar.{days_from_civil}
-use Rattle.jiff_core.proofs.SignedLemmas.{signed_arith, one_part}
+use Rattle.jiff_core.proofs.SignedLemmas.{signed_arith}
 use Rattle.sql_timestamp.specs.Instants.{Timestamp, timestamp_of, at_day, local_nanos, local_day, time_of_day, is_offset, is_timestamp, second_nanos, minute_nanos, hour_nanos, day_nanos}
-use Rattle.sql_timestamp.specs.Calendars.{is_date, year_of, month_of, day_of}
-use Rattle.sql_timestamp.specs.TimestampText.{digit, capital_t, colon, full_stop, print_two, print_date, print_fraction, print_zone, Zone, universal, ahead, behind, Seconds, Clock, TimestampText, print_text, IsZone, IsFraction, IsSeconds, IsClock, IsText, offset_of, fraction_nanos, nanos_of_fraction, nanos_of_clock, meaning_of, Spells}
+use Rattle.sql_timestamp.specs.Calendars.{year_of, month_of, day_of}
+use Rattle.sql_timestamp.specs.TimestampText.{digit, capital_t, colon, full_stop, print_two, print_date, print_fraction, print_zone, IsZone, IsFraction, IsClock, IsText, offset_of, fraction_nanos, nanos_of_fraction, nanos_of_clock, meaning_of, Spells}
 use Rattle.sql_timestamp.specs.Reading.{spelled_timestamp}
 use Rattle.sql_timestamp.specs.Printing.{fraction_digits, printed_fraction, printed_zone, printed_clock, text_of, printed_timestamp}
 use Rattle.sql_timestamp.proofs.Dates.{date_of_day, date_close}

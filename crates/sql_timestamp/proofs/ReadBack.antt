@@ -1,5 +1,5 @@
 -- What is spelled is read: from a text of the grammar to the function.
-use Rattle.std.proofs.Common.{◌≡◌, ℕ, zero, suc, ◌+◌, ◌-◌, ◌*◌, ◌/◌, ◌%◌, ◌^◌, ◌<◌, ◌≤◌, nat_lt, Bool, true, false, ◌&&◌, ◌==◌, if◌then◌else◌, List, [], ◌∷◌, ◌++◌, length, length-append, slice_index, Option, Some, None, IfSome, refl, sym, ap, ◌∙◌, arith, ℤ, pos, neg_ℤ}
+use Rattle.std.proofs.Common.{◌≡◌, ℕ, zero, suc, ◌+◌, ◌-◌, ◌*◌, ◌/◌, ◌%◌, ◌^◌, ◌<◌, ◌≤◌, nat_lt, true, ◌==◌, List, [], ◌∷◌, ◌++◌, length, length-append, slice_index, Option, Some, None, IfSome, refl, sym, ap, ◌∙◌, arith, ℤ, pos}
 use Rattle.std.specs.Char.{is_ascii_digit, digit_value}
 use Rattle.std.specs.Str.{all_ascii_digits, chars, IsAscii, IsNotAscii, IsUtf8}
 use Rattle.std.proofs.lemmas.Str.{encodes-IsAscii, encodes-chars}
@@ -10,8 +10,8 @@ use Rattle.jiff_core.specs.Calendar.{days_from_civil}
 use Rattle.jiff_core.proofs.CalendarLemmas.{days_in_month_bounds}
 use Rattle.sql_timestamp.specs.Instants.{Timestamp, at_day, second_nanos, minute_nanos, hour_nanos}
 use Rattle.sql_timestamp.specs.Calendars.{is_date}
-use Rattle.sql_timestamp.specs.TimestampText.{hyphen, plus_sign, full_stop, colon, capital_t, capital_z, digit, print_two, print_four, Zone, universal, ahead, behind, print_zone, Seconds, print_fraction, print_seconds, Clock, print_clock, TimestampText, in_year, in_month, on_day, marked_day, at_time, print_date, print_text, IsZone, IsFraction, IsSeconds, IsClock, IsText, offset_of, fraction_nanos, nanos_of_fraction, nanos_of_seconds, nanos_of_clock, meaning_of, Spells}
-use Rattle.sql_timestamp.specs.Reading.{and_then, pair, pair_below, at_end, signed_offset, read_offset, read_zone, read_fraction, after_point, after_second, read_second, after_minute, read_time, day_number, date_alone, after_day, read_day, after_month, read_month, after_year, spelled_timestamp}
+use Rattle.sql_timestamp.specs.TimestampText.{hyphen, full_stop, colon, capital_t, digit, print_two, print_four, Zone, universal, ahead, behind, print_zone, Seconds, print_fraction, print_seconds, Clock, print_clock, TimestampText, in_year, in_month, on_day, marked_day, at_time, print_date, print_text, IsZone, IsFraction, IsSeconds, IsClock, IsText, offset_of, fraction_nanos, nanos_of_fraction, nanos_of_seconds, nanos_of_clock, meaning_of, Spells}
+use Rattle.sql_timestamp.specs.Reading.{pair, pair_below, at_end, signed_offset, read_offset, read_zone, read_fraction, after_point, after_second, read_second, after_minute, read_time, day_number, date_alone, after_day, read_day, after_month, read_month, after_year, spelled_timestamp}
 use Rattle.sql_timestamp.proofs.Dates.{date_open}
 use Rattle.sql_timestamp.proofs.ReadSteps.{fraction_more}
 use Rattle.sql_timestamp.proofs.Spelling.{digit_counts, spells}

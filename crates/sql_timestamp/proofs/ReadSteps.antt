@@ -1,10 +1,9 @@
 -- The steps of reading.
-use Rattle.std.proofs.Common.{◌≡◌, ℕ, zero, suc, ◌+◌, ◌-◌, ◌*◌, ◌^◌, ◌<◌, ◌≤◌, Bool, true, false, List, [], ◌∷◌, length, get_or, take, drop, Option, Some, None, refl, sym, ap, ◌∙◌, arith, ℤ, pos, mul-le-mul_right}
+use Rattle.std.proofs.Common.{◌≡◌, ℕ, zero, suc, ◌+◌, ◌-◌, ◌*◌, ◌^◌, ◌<◌, ◌≤◌, true, false, List, [], ◌∷◌, length, get_or, take, drop, None, refl, sym, arith, ℤ, mul-le-mul_right}
 use Rattle.std.specs.Char.{is_ascii_digit, digit_value}
 use Rattle.std.proofs.lemmas.Bool.Decides.{nat_tests}
 use Rattle.std.proofs.lemmas.List.{take_all}
 use Rattle.std.proofs.Math.Nat.{pow-succ'}
-use Rattle.sql_timestamp.specs.Instants.{Timestamp}
 use Rattle.sql_timestamp.specs.Reading.{at_end, read_zone, read_fraction}
 
 pub ends_kept : (day day' o o' : ℤ) (s f : ℕ) (cs : List ℕ) → day' ≡ day → o' ≡ o → at_end day' s f o' cs ≡ at_end day s f o cs

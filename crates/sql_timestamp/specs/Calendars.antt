@@ -31,3 +31,13 @@ day_of day = unsigned_abs (day -ℤ month_start (year_of day) (month_of day)) + 
 -- the calendar has this date, and its year is from 1 to 9999
 unfoldable pub is_date : ℕ → ℕ → ℕ → Bool
 is_date y m d = nat_le 1 y && nat_le y 9999 && nat_le 1 m && nat_le m 12 && nat_le 1 d && nat_le d (days_in_month (pos y) m)
+
+-- the year y, the month m and the day d are a date, and its day number is this one
+pub record IsDateOf (day : ℤ) (y m d : ℕ) : Type 0 where
+  pub year_low : 1 ≤ y
+  pub year_high : y ≤ 9999
+  pub month_low : 1 ≤ m
+  pub month_high : m ≤ 12
+  pub day_low : 1 ≤ d
+  pub day_high : d ≤ days_in_month (pos y) m
+  pub number : days_from_civil (pos y) m d ≡ day

@@ -1,8 +1,8 @@
 -- The text of a timestamp.
-use Rattle.std.specs.Prelude.{ℕ, zero, suc, ◌/◌, ◌%◌, ◌^◌, ◌==◌, ℤ, pos, negsuc, unsigned_abs, List, [], ◌∷◌, Option, Some, None, if◌then◌else◌}
+use Rattle.std.specs.Prelude.{ℕ, zero, suc, ◌/◌, ◌%◌, ◌^◌, ◌==◌, ℤ, pos, negsuc, List, [], ◌∷◌, Option, Some, None, if◌then◌else◌}
 use Rattle.sql_timestamp.specs.Instants.{Timestamp, second_nanos, minute_nanos, hour_nanos, local_day, time_of_day}
 use Rattle.sql_timestamp.specs.Calendars.{year_of, month_of, day_of}
-use Rattle.sql_timestamp.specs.TimestampText.{TimestampText, at_time, Zone, universal, ahead, behind, Seconds, Clock, digit, print_text}
+use Rattle.sql_timestamp.specs.TimestampText.{TimestampText, at_time, Zone, universal, ahead, behind, Clock, digit, print_text}
 
 -- the k digits of f that stand behind the point, without zeros at their end
 unfoldable pub fraction_digits : ℕ → ℕ → List ℕ

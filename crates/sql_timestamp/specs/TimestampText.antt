@@ -1,7 +1,7 @@
 -- Timestamp texts: a year, a month or a day, in UTC, or a day with a time and its offset. A text is a
 -- tree, a printer from the tree to its characters, and a fact that says which trees are valid. The
 -- timestamp that a text means stands below.
-use Rattle.std.specs.Prelude.{◌≡◌, ℕ, zero, suc, ◌+◌, ◌-◌, ◌*◌, ◌/◌, ◌%◌, ◌^◌, ◌<◌, ◌≤◌, Bool, true, false, ℤ, pos, neg_ℤ, ◌+ℤ◌, ◌*ℤ◌, List, [], ◌∷◌, ◌++◌, length, Option, Some, None, IfSome, IsTrue, if◌then◌else◌}
+use Rattle.std.specs.Prelude.{◌≡◌, ℕ, zero, suc, ◌+◌, ◌*◌, ◌/◌, ◌%◌, ◌^◌, ◌<◌, ◌≤◌, ℤ, pos, neg_ℤ, List, [], ◌∷◌, ◌++◌, length, Option, Some, None, IfSome, IsTrue}
 use Rattle.std.specs.Str.{all_ascii_digits}
 use Rattle.std.specs.Char.{digit_value}
 use Rattle.jiff_core.specs.Calendar.{days_from_civil}

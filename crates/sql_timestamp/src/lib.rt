@@ -2,6 +2,7 @@
 #![tactic(auto)]
 
 mod fault;
+mod laws;
 mod part;
 mod parts;
 mod print;
@@ -9,5 +10,6 @@ mod read;
 mod stamp;
 
 pub use crate::fault::ValueFault;
+pub use crate::laws::each_day_has_one_date;
 pub use crate::part::Part;
 pub use crate::stamp::Stamp;

@@ -1,4 +1,4 @@
-use Rattle.std.proofs.Common.{sym, arith}
+use Rattle.std.proofs.Common.{sym}
 use Rattle.sql_timestamp.proofs.ReadBack.{high_none, full_none}
 use Rattle.sql_timestamp.proofs.read.read_shown.Goals as goal
 

@@ -1,4 +1,4 @@
-use Rattle.std.proofs.Common.{◌≡◌, arith, pos, ap, refl, ◌∙◌, ◌+ℤ◌, ◌*ℤ◌, to_z, of_z, w16, w64, FitsSigned, true, Ok}
+use Rattle.std.proofs.Common.{◌≡◌, arith, ap, refl, ◌∙◌, ◌+ℤ◌, ◌*ℤ◌, to_z, of_z, w16, w64, FitsSigned, true, Ok}
 use Rattle.jiff_core.proofs.SignedLemmas.{signed_arith}
 use Rattle.sql_timestamp.specs.Instants.{local_day, is_day}
 use Rattle.sql_timestamp.specs.Parts.{month_number}

@@ -1,8 +1,7 @@
-use Rattle.std.proofs.Common.{◌≡◌, arith, pos, ap, sym, ◌∙◌, ◌/◌, ◌%◌, ◌++◌, [], unsigned_abs, to_z, of_z, w16, true, FitsSigned}
+use Rattle.std.proofs.Common.{◌≡◌, arith, ap, ◌∙◌, ◌/◌, ◌%◌, unsigned_abs, w16, true, FitsSigned}
 use Rattle.std.proofs.lemmas.Bool.{and_from}
 use Rattle.jiff_core.proofs.SignedLemmas.{signed_arith}
-use Rattle.sql_timestamp.specs.Instants.{local_day, time_of_day, is_day, is_offset, is_timestamp, second_nanos, minute_nanos, hour_nanos}
-use Rattle.sql_timestamp.specs.Calendars.{year_of}
+use Rattle.sql_timestamp.specs.Instants.{local_day, is_day, is_offset, is_timestamp}
 use Rattle.sql_timestamp.proofs.Ranges.{kept}
 use Rattle.sql_timestamp.proofs.Printed.{pushed}
 use Rattle.sql_timestamp.proofs.stamp.Stamp.written.Goals as goal
