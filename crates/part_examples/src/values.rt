@@ -38,7 +38,10 @@ fn text(text: &str) -> Value<'_> {
 /// Compares a value's printed text.
 fn shows(rt: &impl Abort, value: &Value<'_>, wanted: &str) {
     let mut out = Value::Null;
-    assert!(rt; cast_into(value, Target::Text, &mut out).is_none(), "{wanted}");
+    assert!(rt;
+        cast_into(value, Target::Text, &mut out).is_none(),
+        "{wanted}"
+    );
     match &out {
         Value::Text(text) => assert!(rt; text.equals(wanted), "{wanted}"),
         _ => assert!(rt; false, "{wanted}"),
@@ -93,7 +96,11 @@ fn casts_to(rt: &impl Abort, from: &str, target: Target, wanted: &str) {
 
 fn orders(rt: &impl Abort, table: &[OrderRow]) {
     for (int, other, wanted) in table {
-        assert_eq!(rt; compare(&Value::Int(*int), &text(other)), *wanted, "{other}");
+        assert_eq!(rt;
+            compare(&Value::Int(*int), &text(other)),
+            *wanted,
+            "{other}"
+        );
     }
 }
 
@@ -145,7 +152,12 @@ fn values(rt: HostRuntime) -> Result<(), Fail> {
     faults(
         &rt,
         &[
-            (Arith::Add, "9223372036854775807", "1", ValueFault::IntegerOverflow),
+            (
+                Arith::Add,
+                "9223372036854775807",
+                "1",
+                ValueFault::IntegerOverflow,
+            ),
             (
                 Arith::Add,
                 "99999999999999999999999999999999999999",
@@ -198,7 +210,12 @@ fn text_functions(rt: &impl Abort) {
     wrote(rt, fault, &out, "12");
     let fault = trim_into(Side::Both, &text("   foobar  "), &mut out);
     wrote(rt, fault, &out, "foobar");
-    let fault = trim_set_into(Side::Leading, &text("12"), &text("1112211foobar22"), &mut out);
+    let fault = trim_set_into(
+        Side::Leading,
+        &text("12"),
+        &text("1112211foobar22"),
+        &mut out,
+    );
     wrote(rt, fault, &out, "foobar22");
 }
 
@@ -206,7 +223,11 @@ fn time_functions(rt: &impl Abort) {
     let mut out = Value::Null;
     let fault = to_timestamp_into(&text("2024-02-29T10:00+02:00"), &mut out);
     wrote(rt, fault, &out, "2024-02-29T10:00:00+02:00");
-    let fault = extract_into(Part::TimezoneHour, &text("2024-02-29T10:00+02:00"), &mut out);
+    let fault = extract_into(
+        Part::TimezoneHour,
+        &text("2024-02-29T10:00+02:00"),
+        &mut out,
+    );
     wrote(rt, fault, &out, "2");
     let stamp = text("2024-02-29T10:00+02:00");
     let fault = date_add_into(Part::Year, &Value::Int(1), &stamp, &mut out);
