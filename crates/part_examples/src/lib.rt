@@ -3,6 +3,8 @@
 #![tactic(auto)]
 
 #[cfg(test)]
+mod csv;
+#[cfg(test)]
 mod decimals;
 #[cfg(test)]
 mod grammars;
