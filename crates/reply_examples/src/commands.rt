@@ -1,8 +1,7 @@
 //! Commands over a store and streams in memory, whatever the lengths of reads and writes, and with each call outside failing in
 //! its turn.
 
-use crate::shown::{part, show};
-use crate::table::Row;
+use case_tables::{Row, part, show};
 use event_frame::crc32;
 use select_ports::{MemObject, MemSink, MemSource, MemStore};
 use select_tool::run;

@@ -1,7 +1,6 @@
 //! Bodies, and their elements or the first fault's place.
 
-use crate::shown::{part, show};
-use crate::table::Row;
+use case_tables::{Row, part, show};
 use request_elements::{ElementsError, Found, TextBuf, read_elements};
 use std::alloc::Global;
 use std::test::Fail;

@@ -1,7 +1,6 @@
 //! What a body asks, and the reply to a query, without a command around it.
 
-use crate::shown::show;
-use crate::table::Row;
+use case_tables::{Row, show};
 use event_frame::{Counts, crc32};
 use select_engine::{Asked, Code, EngineError, Outcome, prepare, refuse, run_job};
 use select_ports::{Found, Limits, MemObject, MemSink, MemStore, Plain, Store};

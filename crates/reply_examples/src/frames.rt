@@ -1,8 +1,7 @@
 //! Frames that are written, and frames that are read back.
 ghost use Rattle.std.specs.Prelude.{◌≡◌};
 
-use crate::shown::show;
-use crate::table::Row;
+use case_tables::{Row, show};
 use event_frame::{Counts, EventView, FrameReader, FrameWriter, crc32};
 use select_ports::{MemSink, Plain};
 use std::alloc::Global;

@@ -2,8 +2,7 @@
 ghost use Rattle.std.specs.Prelude.{◌≡◌, ◌<◌, ◌≤◌};
 ghost use Rattle.select_ports.specs.Stored.{IsOpen};
 
-use crate::shown::{part, show};
-use crate::table::Row;
+use case_tables::{Row, part, show};
 use line_window::{Line, Window, is_delimiter};
 use select_ports::{Failed, Found, Limits, MemObject, MemStore, Range, Store};
 use std::alloc::Global;

@@ -1,7 +1,6 @@
 //! What no clause says of the way from a request to its reply: each public call on its happy path, values that were made elsewhere,
 //! and calls outside that fail in turn. Each case is a row of a table in data/, and what comes of it is a line of stdout.
 #![tactic(auto)]
-ghost use Rattle.std.specs.Prelude.{◌≡◌};
 
 mod commands;
 mod elements;
@@ -10,47 +9,82 @@ mod frames;
 mod lines;
 mod ports;
 mod requests;
-mod shown;
-mod table;
 
-use std::alloc::Global;
+use case_tables::{Row, Tell, tell_tables};
 use std::rt::Files;
 use std::test::Fail;
-use table::{Row, rows};
 
-/// Prints a line for each row of a table.
-fn tell<F: Fn(Global, &Row) -> Result<String, Fail>>(
-    rt: &(impl Files + Print + AllocGlobal),
-    table: &str,
-    told: &F,
-) -> Result<(), Fail>
-    requires { F.IsAlwaysCallable told.now }
-{
-    for row in rows(rt, table)?.iter() {
-        let line = row.line;
-        let text = told(rt.alloc(), row)?;
-        println!(rt; "{table}:{line}: {text}")?;
+/// The tables, in the order in which they are told, and what their rows are.
+const TABLES: [(&str, Kind); 18] = [
+    ("elements.tsv", Kind::Elements),
+    ("texts.tsv", Kind::Texts),
+    ("requests.tsv", Kind::Requests),
+    ("every_setting.tsv", Kind::EverySetting),
+    ("crcs.tsv", Kind::Crcs),
+    ("frames.tsv", Kind::Frames),
+    ("events.tsv", Kind::Events),
+    ("lines.tsv", Kind::Lines),
+    ("stores.tsv", Kind::Stores),
+    ("files.tsv", Kind::Files),
+    ("inputs.tsv", Kind::Inputs),
+    ("outputs.tsv", Kind::Outputs),
+    ("asked.tsv", Kind::Asked),
+    ("jobs.tsv", Kind::Jobs),
+    ("refusals.tsv", Kind::Refusals),
+    ("replies.tsv", Kind::Replies),
+    ("listings.tsv", Kind::Listings),
+    ("failures.tsv", Kind::Failures),
+];
+
+/// What a row is.
+#[derive(Clone, Copy)]
+enum Kind {
+    Elements,
+    Texts,
+    Requests,
+    EverySetting,
+    Crcs,
+    Frames,
+    Events,
+    Lines,
+    Stores,
+    Files,
+    Inputs,
+    Outputs,
+    Asked,
+    Jobs,
+    Refusals,
+    Replies,
+    Listings,
+    Failures,
+}
+
+impl Tell for Kind {
+    fn tell<R: Files + AllocGlobal>(&self, rt: &R, row: &Row) -> Result<String, Fail> {
+        let alloc = rt.alloc();
+        match self {
+            Kind::Elements => elements::tell_body(alloc, row),
+            Kind::Texts => elements::tell_text(alloc, row),
+            Kind::Requests => requests::tell_body(alloc, row),
+            Kind::EverySetting => requests::tell_every_setting(alloc, row),
+            Kind::Crcs => frames::tell_crc(alloc, row),
+            Kind::Frames => frames::tell_frames(alloc, row),
+            Kind::Events => frames::tell_event(alloc, row),
+            Kind::Lines => lines::tell_lines(alloc, row),
+            Kind::Stores => ports::tell_memory(alloc, row),
+            Kind::Files => ports::tell_files(rt, row),
+            Kind::Inputs => ports::tell_input(alloc, row),
+            Kind::Outputs => ports::tell_output(alloc, row),
+            Kind::Asked => engine::tell_asked(alloc, row),
+            Kind::Jobs => engine::tell_job(alloc, row),
+            Kind::Refusals => engine::tell_refusal(alloc, row),
+            Kind::Replies => commands::tell_reply(alloc, row),
+            Kind::Listings => commands::tell_output(alloc, row),
+            Kind::Failures => commands::tell_failure(alloc, row),
+        }
     }
-    Ok(())
 }
 
 fn main(rt: HostRuntime) -> Result<(), Fail> {
-    tell(&rt, "elements.tsv", &elements::tell_body)?;
-    tell(&rt, "texts.tsv", &elements::tell_text)?;
-    tell(&rt, "requests.tsv", &requests::tell_body)?;
-    tell(&rt, "every_setting.tsv", &requests::tell_every_setting)?;
-    tell(&rt, "crcs.tsv", &frames::tell_crc)?;
-    tell(&rt, "frames.tsv", &frames::tell_frames)?;
-    tell(&rt, "events.tsv", &frames::tell_event)?;
-    tell(&rt, "lines.tsv", &lines::tell_lines)?;
-    tell(&rt, "stores.tsv", &ports::tell_memory)?;
-    tell(&rt, "files.tsv", &|_, row| ports::tell_files(&rt, row))?;
-    tell(&rt, "inputs.tsv", &ports::tell_input)?;
-    tell(&rt, "outputs.tsv", &ports::tell_output)?;
-    tell(&rt, "asked.tsv", &engine::tell_asked)?;
-    tell(&rt, "jobs.tsv", &engine::tell_job)?;
-    tell(&rt, "refusals.tsv", &engine::tell_refusal)?;
-    tell(&rt, "replies.tsv", &commands::tell_reply)?;
-    tell(&rt, "listings.tsv", &commands::tell_output)?;
-    tell(&rt, "failures.tsv", &commands::tell_failure)
+    tell_tables(&rt, &TABLES)
 }

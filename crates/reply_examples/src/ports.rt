@@ -1,8 +1,7 @@
 //! The order of calls on the outside as a whole, and the real things.
 ghost use Rattle.std.specs.Prelude.{◌≤◌, IfOk, IfSome, length};
 
-use crate::shown::{part, show};
-use crate::table::Row;
+use case_tables::{Row, part, show};
 use select_ports::{
     Failed, FileStore, Found, MemObject, MemSink, MemSource, MemStore, Sink, Source, StdSink,
     StdSource, Store, write_all,
@@ -119,7 +118,11 @@ pub(crate) fn tell_input(alloc: Global, row: &Row) -> Result<String, Fail> {
         }
         "reader" => show_given(&mut StdSource::new(bytes), reads, &mut text)?,
         "interrupted" => {
-            show_given(&mut StdSource::new(Interrupted { times: 2 }), reads, &mut text)?;
+            show_given(
+                &mut StdSource::new(Interrupted { times: 2 }),
+                reads,
+                &mut text,
+            )?;
         }
         _ => return Err(Fail::new("no input")),
     }

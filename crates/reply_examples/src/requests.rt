@@ -1,7 +1,6 @@
 //! Bodies as clients write them, which are refused, or read as a request that is printed.
 
-use crate::shown::show;
-use crate::table::Row;
+use case_tables::{Row, show};
 use select_request::{
     CsvInput, CsvOutput, Delimiter, Header, Input, Output, ReadError, ScanRange, SelectRequest,
     TextBuf, body_has_one_reading, print, printed_request_is_read, read,

@@ -11,36 +11,40 @@ use std::test::Fail;
 
 /// A case: the bytes of its fields, and the number of its line.
 #[derive(Debug, Drop)]
-pub(crate) struct Row {
-    pub(crate) line: usize,
+pub struct Row {
+    /// The number of its line in the table's file.
+    pub line: usize,
     fields: Vec<Vec<u8>>,
 }
 
 impl Row {
     /// How many fields there are.
-    pub(crate) fn count(&self) -> usize {
+    pub fn count(&self) -> usize {
         self.fields.len()
     }
 
-    pub(crate) fn bytes(&self, field: usize) -> Result<&[u8], Fail> {
+    /// The bytes of a field.
+    pub fn bytes(&self, field: usize) -> Result<&[u8], Fail> {
         match self.fields.get(field) {
             Some(bytes) => Ok(bytes.as_slice()),
             None => Err(Fail::new("a field is missing")),
         }
     }
 
-    pub(crate) fn text(&self, field: usize) -> Result<&str, Fail> {
+    /// A field as a text.
+    pub fn text(&self, field: usize) -> Result<&str, Fail> {
         let bytes = self.bytes(field)?;
         Ok(from_utf8(bytes)?)
     }
 
-    pub(crate) fn number(&self, field: usize) -> Result<u64, Fail> {
+    /// A field as a number.
+    pub fn number(&self, field: usize) -> Result<u64, Fail> {
         let text = self.text(field)?;
         Ok(text.parse::<u64>()?)
     }
 
     /// The bytes of the fields from one on, one after another.
-    pub(crate) fn joined(&self, alloc: Global, first: usize) -> Result<Vec<u8>, Fail> {
+    pub fn joined(&self, alloc: Global, first: usize) -> Result<Vec<u8>, Fail> {
         let mut all = Vec::new(alloc);
         for bytes in self.fields.iter().skip(first) {
             all.extend_from_slice(bytes.as_slice())?;
@@ -50,7 +54,7 @@ impl Row {
 }
 
 /// The cases of a table.
-pub(crate) fn rows(rt: &(impl Files + AllocGlobal), table: &str) -> Result<Vec<Row>, Fail> {
+pub fn rows(rt: &(impl Files + AllocGlobal), table: &str) -> Result<Vec<Row>, Fail> {
     let text = fs::read_to_string(rt, table)?;
     let mut rows = Vec::new(rt.alloc());
     let mut line = 0usize;

@@ -3,7 +3,7 @@
 use std::test::Fail;
 
 /// Adds the bytes between quotes: printable ASCII for itself, and else the escapes that tables have.
-pub(crate) fn show(text: &mut String, bytes: &[u8]) -> Result<(), Fail> {
+pub fn show(text: &mut String, bytes: &[u8]) -> Result<(), Fail> {
     text.push('"')?;
     for byte in bytes {
         show_byte(text, *byte)?;
@@ -25,7 +25,7 @@ fn show_byte(text: &mut String, byte: u8) -> Result<(), Fail> {
 }
 
 /// Adds a comma between what was told and what comes.
-pub(crate) fn part(text: &mut String) -> Result<(), Fail> {
+pub fn part(text: &mut String) -> Result<(), Fail> {
     if !text.is_empty() {
         text.push_str(", ")?;
     }
