@@ -13,11 +13,18 @@ fn decimal(row: &Row, field: usize) -> Result<Dec, Fail> {
 }
 
 /// Adds `Int` and the number, or `Dec`, the coefficient and the scale.
-fn show_number(text: &mut String, number: Option<Num>) -> Result<(), Fail> {
+pub(crate) fn show_number(text: &mut String, number: Num) -> Result<(), Fail> {
+    match number {
+        Num::Int(int) => write!(text, "Int {int}")?,
+        Num::Dec(decimal) => show_decimal(text, decimal)?,
+    }
+    Ok(())
+}
+
+fn show_read(text: &mut String, number: Option<Num>) -> Result<(), Fail> {
     part(text)?;
     match number {
-        Some(Num::Int(int)) => write!(text, "Int {int}")?,
-        Some(Num::Dec(decimal)) => show_decimal(text, decimal)?,
+        Some(number) => show_number(text, number)?,
         None => text.push_str("none")?,
     }
     Ok(())
@@ -69,8 +76,8 @@ pub(crate) fn tell_operation(alloc: Global, row: &Row) -> Result<String, Fail> {
 pub(crate) fn tell_text(alloc: Global, row: &Row) -> Result<String, Fail> {
     let mut text = String::new(alloc);
     let spelled = row.text(0)?;
-    show_number(&mut text, Dec::read_str(spelled))?;
-    show_number(&mut text, Dec::read(spelled.chars()))?;
+    show_read(&mut text, Dec::read_str(spelled))?;
+    show_read(&mut text, Dec::read(spelled.chars()))?;
     show_int(&mut text, Dec::read_int(spelled))?;
     Ok(text)
 }

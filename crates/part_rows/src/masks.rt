@@ -27,9 +27,13 @@ pub(crate) fn tell_places(alloc: Global, row: &Row) -> Result<String, Fail> {
     Ok(text)
 }
 
-/// A line: the masks of its commas, its quotes, both, and its bytes past ASCII, and whether it is plain.
+/// A line of 64 bytes at most: the masks of its commas, its quotes, both, and its bytes past ASCII, and whether it is plain.
 pub(crate) fn tell_sight(alloc: Global, row: &Row) -> Result<String, Fail> {
-    let sight = see(row.bytes(0)?, b',', b'"');
+    let line = row.bytes(0)?;
+    if line.len() > 64 {
+        return Err(Fail::new("a long line"));
+    }
+    let sight = see(line, b',', b'"');
     marks_are_places();
     let fields = sight.fields;
     let quotes = sight.quotes;

@@ -1,7 +1,7 @@
 //! Texts of queries with their tokens, and texts that are none.
 
+use crate::decimals::show_number;
 use case_tables::{Row, part, show};
-use sql_decimal::Num;
 use sql_tokens::{Class, TextBuf, Tokens};
 use std::alloc::Global;
 use std::test::Fail;
@@ -48,14 +48,8 @@ pub(crate) fn tell_spelled(alloc: Global, row: &Row) -> Result<String, Fail> {
     show_spelled(&mut text, "word", tokens.word())?;
     show_spelled(&mut text, "quoted name", tokens.quoted_name())?;
     show_spelled(&mut text, "text", tokens.text())?;
-    match tokens.number() {
-        Some(Num::Int(int)) => write!(text, "Int {int}")?,
-        Some(Num::Dec(decimal)) => {
-            let coeff = decimal.coeff();
-            let scale = decimal.scale();
-            write!(text, "Dec {coeff} {scale}")?;
-        }
-        None => {}
+    if let Some(number) = tokens.number() {
+        show_number(&mut text, number)?;
     }
     Ok(text)
 }

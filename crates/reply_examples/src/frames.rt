@@ -1,5 +1,4 @@
 //! Frames that are written, and frames that are read back.
-ghost use Rattle.std.specs.Prelude.{◌≡◌};
 
 use case_tables::{Row, show};
 use event_frame::{Counts, EventView, FrameReader, FrameWriter, crc32};

@@ -51,13 +51,11 @@ fn show_lines(alloc: Global, row: &Row, length: usize, text: &mut String) -> Res
         return Err(Fail::new("no range"));
     }
     window.seek(&mut store, size, Range { first, last })?;
-    if passed > 0 {
-        pass(&mut window, &mut store, passed, text)?;
-    }
+    pass(&mut window, &mut store, passed, text)?;
     answers(&mut window, &mut store, 4, text)
 }
 
-/// Passes bytes that stand ahead.
+/// Passes bytes that stand ahead, where there are some to pass.
 fn pass<S: Store>(
     window: &mut Window,
     store: &mut S,
@@ -69,6 +67,9 @@ fn pass<S: Store>(
     ensures current { S.current store.new ≡ S.current store.old }
     ensures size { window.new.size ≡ window.old.size }
 {
+    if count == 0 {
+        return Ok(());
+    }
     let lent = window.ahead(store, count)?.len();
     if lent >= count {
         window.pass(count);
