@@ -62,7 +62,7 @@ fn answer_content<K: FrameSink>(
             start,
             whole,
             RecordYield::Output {
-                record: content,
+                bytes: content,
                 delimiter: b"\n",
             },
         ),

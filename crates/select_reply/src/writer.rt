@@ -99,7 +99,7 @@ impl ReplyWriter {
                 self.count(len);
                 Ok(None)
             }
-            RecordYield::Output { record, delimiter } => self.output(out, len, record, delimiter),
+            RecordYield::Output { bytes, delimiter } => self.output(out, len, bytes, delimiter),
             RecordYield::Fault(code) => self.refuse(out, code, start),
         }
     }
@@ -109,18 +109,18 @@ impl ReplyWriter {
         &mut self,
         out: &mut K,
         len: u64,
-        record: &[u8],
+        bytes: &[u8],
         delimiter: &[u8],
     ) -> Result<Option<Outcome>, Failed>
         ensures bytes { AddsAll (K.written out.old) (K.written out.new) result
-            (wrapped_frames K.wrap (output_events self.old len (record.now ++ delimiter.now))) }
-        ensures outcome { IfOk result (λ outcome. outcome ≡ output_outcome self.old len (record.now ++ delimiter.now)) }
-        ensures after { IfOk result (λ outcome. outcome ≡ None → self.new ≡ after_output self.old len (record.now ++ delimiter.now)) }
+            (wrapped_frames K.wrap (output_events self.old len (bytes.now ++ delimiter.now))) }
+        ensures outcome { IfOk result (λ outcome. outcome ≡ output_outcome self.old len (bytes.now ++ delimiter.now)) }
+        ensures after { IfOk result (λ outcome. outcome ≡ None → self.new ≡ after_output self.old len (bytes.now ++ delimiter.now)) }
         ensures faults { HasCause (K.faults out.old) (K.faults out.new) result }
         ensures rest { K.rest out.new ≡ K.rest out.old }
     {
         self.count(len);
-        self.add_both(out, record, delimiter)?;
+        self.add_both(out, bytes, delimiter)?;
         self.use_one();
         if self.is_full() {
             return self.finish(out);

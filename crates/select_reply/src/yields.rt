@@ -8,7 +8,7 @@ pub enum RecordYield<'r> {
     Nothing,
     /// Its output: the record's bytes, and the delimiter behind them.
     Output {
-        record: &'r [u8],
+        bytes: &'r [u8],
         delimiter: &'r [u8],
     },
     /// Its code, which ends the reply.

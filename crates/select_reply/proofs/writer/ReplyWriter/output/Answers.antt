@@ -12,7 +12,7 @@ use Rattle.select_reply.proofs.writer.ReplyWriter.output.Goals as goal
 pub returns-then-is_full-clause-bytes : goal.returns-then-is_full-clause-bytes
 returns-then-is_full-clause-bytes g c =
     let b = c.args.self.now in
-    let bytes = c.args.record.now ++ c.args.delimiter.now in
+    let bytes = c.args.bytes.now ++ c.args.delimiter.now in
     let scanned = c.count.ensures in
     let state : c.use_one.new.self ≡ after_output b c.args.len bytes =
     c.use_one.ensures ∙ ap used_one (c.in_ok-add_both.ensures.after ∙ ap (λ (s : Begun). grown s bytes) scanned) in
