@@ -1,12 +1,12 @@
 -- The spans of a line's fields: on the way through a line, and what they cut out.
-use Rattle.std.proofs.Common.{Result, Err, get_or, ◌≡◌, ◌≢◌, ℕ, zero, suc, ◌+◌, ◌-◌, ◌≤◌, ◌<◌, Bool, true, false, cond, ◌&&◌, ◌||◌, ◌==◌, List, [], ◌∷◌, ◌++◌, map, take, drop, length, slice_index, slice_range, refl, sym, ◌∙◌, ap, subst, arith, append_assoc, length-append, length-drop, ⊎_elim, inl, inr, ◌⊎◌}
+use Rattle.std.proofs.Common.{Err, get_or, ◌≡◌, ℕ, ◌+◌, ◌≤◌, ◌<◌, Bool, true, false, cond, ◌==◌, List, [], ◌∷◌, ◌++◌, map, take, drop, length, slice_index, slice_range, refl, sym, ◌∙◌, ap, subst, arith, append_assoc, length-append, ⊎_elim}
 use Rattle.std.proofs.lemmas.Bool.{cases_lt}
 use Rattle.std.proofs.lemmas.List.{append-nil, drop_all, take_all, take_more_set, length-set, length-map, map-append, length-take-le}
 use Rattle.std.proofs.lemmas.List.Elements.{All-push, All-nil}
 use Rattle.std.proofs.lemmas.Str.{IsCharBoundary-start, IsCharBoundary-end, IsCharBoundary-before_ascii, IsCharBoundary-after_ascii, IsCharBoundary-from_ascii}
 use Rattle.std.proofs.Math.ListN.{set}
 use Rattle.std.specs.List.{All, slice_split, onto_first}
-use Rattle.std.specs.Str.{chars, IsUtf8, IsAscii, IsCharBoundary, NonePass}
+use Rattle.std.specs.Str.{chars, IsUtf8, IsCharBoundary, NonePass}
 use Rattle.byte_masks.specs.declared.split.Span.{Span}
 use Rattle.byte_masks.specs.Masks.{is_byte}
 use Rattle.byte_masks.specs.Walks.{HasNone}
@@ -15,11 +15,11 @@ use Rattle.csv_cutter.specs.declared.dialect.Dialect.{Dialect}
 use Rattle.csv_cutter.specs.declared.walk.State.{State}
 use Rattle.csv_cutter.specs.declared.walk.State.TheVariants.{Start, Tail, Inside, Paired, Comment}
 use Rattle.csv_cutter.specs.Fields.{SpellsFields, text_of}
-use Rattle.csv_cutter.specs.Walk.{is_outside, special, is_cut, step, cut_from, cut_fields, Goes, onto, Comes, EndsField, IsLegible}
+use Rattle.csv_cutter.specs.Walk.{is_outside, special, cut_from, cut_fields, onto, EndsField, IsLegible}
 use Rattle.csv_cutter.specs.Reading.{text_at, texts_at, HasFields, HasTooMany, AreFirst, IsFilled, IsRead}
 use Rattle.csv_cutter.specs.declared.fields.CsvFault.{CsvFault}
 use Rattle.csv_cutter.specs.declared.fields.CsvFault.TheVariants.{InvalidTextEncoding, TooManyFields}
-use Rattle.csv_cutter.proofs.Characters.{eq_self, eq_not, eq_is, not_eq, clash, IsApart}
+use Rattle.csv_cutter.proofs.Characters.{eq_self, eq_is, clash, IsApart}
 use Rattle.csv_cutter.proofs.Lines.{onto_cons, cut_nil, cut_here, cut_onwards, fields_cut, tail_stays, start_plain}
 use Rattle.csv_cutter.proofs.Places.{here_cons, none_front}
 use Rattle.csv_cutter.proofs.Spelling.{has_first, cut_chars}

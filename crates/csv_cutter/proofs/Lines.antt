@@ -1,17 +1,15 @@
 -- The fields of a line are what a walk over it cuts.
-use Rattle.std.proofs.Common.{◌≡◌, ◌≢◌, ℕ, zero, suc, ◌+◌, ◌≤◌, ◌<◌, Bool, true, false, cond, ◌&&◌, ◌||◌, ◌==◌, List, [], ◌∷◌, ◌++◌, map, drop, length, refl, sym, ◌∙◌, ap, subst, arith, append_assoc, length-append, ⊎_elim, inl, inr, ◌⊎◌}
+use Rattle.std.proofs.Common.{◌≡◌, ◌≢◌, ℕ, zero, suc, ◌≤◌, Bool, true, false, cond, ◌&&◌, ◌||◌, ◌==◌, List, [], ◌∷◌, ◌++◌, map, drop, length, refl, sym, ◌∙◌, ap, subst, arith, append_assoc, length-append}
 use Rattle.std.proofs.lemmas.List.{append-nil}
-use Rattle.std.specs.Str.{NonePass}
 use Rattle.std.specs.List.{onto_first}
 use Rattle.text_view.specs.QuotedField.{unquoted, begins_special, FieldPiece, escaped, single, print_field, field_text, AreFieldPieces, StandsFor, closed as closed_part, unclosed}
 use Rattle.text_view.proofs.Grammars.{field_alone, field_stands}
 use Rattle.csv_cutter.specs.declared.dialect.Dialect.{Dialect}
 use Rattle.csv_cutter.specs.declared.walk.State.{State}
 use Rattle.csv_cutter.specs.declared.walk.State.TheVariants.{Start, Tail, Inside, Paired}
-use Rattle.csv_cutter.specs.Dialects.{is_valid}
-use Rattle.csv_cutter.specs.Fields.{begins_with, IsUncut, SpellsField, plain, closed, SpellsOpen, BeginsWithField, last_field, last_open, more_fields, SpellsTexts, SpellsFields, IsClosed, text_of}
+use Rattle.csv_cutter.specs.Fields.{begins_with, IsUncut, SpellsField, plain, closed, SpellsOpen, BeginsWithField, last_field, last_open, more_fields, SpellsTexts, SpellsFields, text_of}
 use Rattle.csv_cutter.specs.Walk.{is_outside, special, is_cut, step, cut_from, cut_fields, Goes, onto}
-use Rattle.csv_cutter.proofs.Characters.{eq_self, eq_not, eq_is, not_eq, clash, IsApart, apart}
+use Rattle.csv_cutter.proofs.Characters.{eq_self, eq_not, eq_is, IsApart}
 
 -- ---- a walk, step by step
 

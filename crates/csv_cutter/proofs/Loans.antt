@@ -1,16 +1,15 @@
 -- What lending a record makes of a cutter and its window.
-use Rattle.std.proofs.Common.{◌≡◌, ℕ, zero, suc, ◌+◌, ◌-◌, ◌≤◌, ◌<◌, Bool, true, false, List, [], take, drop, length, refl, sym, ◌∙◌, ap, subst, arith, max, min, Result, Ok, Err, is_err}
+use Rattle.std.proofs.Common.{◌≡◌, ℕ, ◌+◌, ◌≤◌, true, List, take, drop, length, refl, sym, ◌∙◌, ap, arith, Ok, Err}
 use Rattle.std.proofs.lemmas.List.{take-take}
 use Rattle.select_ports.specs.declared.outcome.Failed.{Failed}
 use Rattle.select_ports.specs.Stored.{Opened}
 use Rattle.line_window.specs.declared.line.Line.{Line}
-use Rattle.line_window.specs.declared.line.Line.TheVariants.{At}
-use Rattle.line_window.specs.Sliding.{View, ahead, Tells, Holds, IsSound}
+use Rattle.line_window.specs.Sliding.{View, ahead, IsSound}
 use Rattle.line_window.specs.Ahead.{Looks, IsAhead}
-use Rattle.csv_cutter.specs.declared.records.Pending.TheVariants.{Nothing, Passed, Rest}
+use Rattle.csv_cutter.specs.declared.records.Pending.TheVariants.{Nothing, Passed}
 use Rattle.csv_cutter.specs.declared.records.QuotedRecords.{QuotedRecords}
 use Rattle.csv_cutter.specs.Records.{content_at}
-use Rattle.csv_cutter.specs.Looks.{Moves, Stays}
+use Rattle.csv_cutter.specs.Looks.{Stays}
 use Rattle.csv_cutter.specs.Cutter.{pending_len, IsReady, LendsLine, LendsRecord, StandsThere}
 use Rattle.csv_cutter.proofs.Characters.{clash}
 use Rattle.csv_cutter.proofs.Moving.{ahead_len}

@@ -1,11 +1,9 @@
 -- What the bytes ahead of a window tell of the object.
-use Rattle.std.proofs.Common.{◌↔◌, ◌≡◌, ◌≢◌, ℕ, zero, suc, ◌+◌, ◌-◌, ◌≤◌, ◌<◌, Bool, true, false, cond, ◌&&◌, ◌||◌, ◌==◌, List, [], ◌∷◌, ◌++◌, take, drop, length, slice_index, slice_range, refl, sym, ◌∙◌, ap, subst, arith, append_assoc, length-append, length-drop, ⊎_elim, inl, inr, ◌⊎◌, max, min, nat_lt, Result, Ok, Err, Option, Some, None}
+use Rattle.std.proofs.Common.{◌≡◌, ℕ, zero, suc, ◌+◌, ◌-◌, ◌≤◌, ◌<◌, Bool, true, false, cond, ◌&&◌, ◌==◌, List, [], ◌∷◌, ◌++◌, take, drop, length, refl, sym, ◌∙◌, ap, subst, arith, length-drop, ⊎_elim, inl, inr, ◌⊎◌, Result, Ok, Err, Option, Some, None}
 use Rattle.std.proofs.lemmas.Bool.{cases_lt}
 use Rattle.std.proofs.lemmas.List.{append-nil, length-take, take-append-drop, drop-drop, drop_all}
 use Rattle.std.specs.Str.{bytes_eq}
-use Rattle.select_ports.specs.Stored.{Opened}
-use Rattle.line_window.specs.Delimiters.{StandsAt}
-use Rattle.line_window.specs.Sliding.{View, ahead, Tells, Holds, IsSound, SameRules, Took}
+use Rattle.line_window.specs.Sliding.{View, Holds, IsSound}
 use Rattle.line_window.specs.Ahead.{IsAhead}
 use Rattle.csv_cutter.specs.declared.dialect.Dialect.{Dialect}
 use Rattle.csv_cutter.specs.declared.walk.State.{State}
@@ -13,13 +11,13 @@ use Rattle.csv_cutter.specs.declared.looks.Look.{Look}
 use Rattle.csv_cutter.specs.declared.looks.Ahead.{Ahead}
 use Rattle.csv_cutter.specs.declared.looks.Ahead.TheVariants.{Delimiter, ObjectEnd, More}
 use Rattle.csv_cutter.specs.Records.{delimiter_of}
-use Rattle.csv_cutter.specs.Stops.{may_end, delimited, stops, stop_from, StopsAt, Strides, mark_len, first_state}
+use Rattle.csv_cutter.specs.Stops.{delimited, stop_from, StopsAt, mark_len, first_state}
 use Rattle.csv_cutter.specs.Looks.{IsLook, LooksAt, Ends, EndsAt, Opens, OpensAt}
 use Rattle.csv_cutter.specs.declared.looks.Opening.{Opening}
 use Rattle.csv_cutter.specs.declared.walk.State.TheVariants.{Start, Comment}
 use Rattle.csv_cutter.specs.Fields.{begins_with}
 use Rattle.std.specs.Result.{MatchResult}
-use Rattle.csv_cutter.proofs.Characters.{Delimits, delimits}
+use Rattle.csv_cutter.proofs.Characters.{Delimits}
 use Rattle.csv_cutter.proofs.Stopping.{stop_here, stands_first, stands_short, width_some, same_test, are_same, and_right}
 use Rattle.csv_cutter.proofs.Striding.{front_take}
 

@@ -1,21 +1,20 @@
 -- How a cutter moves its window.
-use Rattle.std.proofs.Common.{◌≡◌, ℕ, zero, suc, ◌+◌, ◌-◌, ◌≤◌, ◌<◌, ◌^◌, Bool, true, false, List, [], take, drop, length, refl, sym, ◌∙◌, ap, subst, arith, length-drop, max, min, Result, Ok, Err, Option, Some, None}
+use Rattle.std.proofs.Common.{◌≡◌, ℕ, zero, suc, ◌+◌, ◌-◌, ◌≤◌, ◌<◌, List, [], drop, length, refl, sym, ◌∙◌, ap, arith, length-drop}
 use Rattle.std.proofs.lemmas.List.{drop-drop, drop_all}
 use Rattle.select_ports.specs.Causes.{RoseBy}
 use Rattle.select_ports.specs.Stored.{Opened}
-use Rattle.line_window.specs.Sliding.{View, ahead, kept_from, Tells, Holds, IsSound, SameRules, Took}
-use Rattle.line_window.specs.Ahead.{Looks, Passes}
+use Rattle.line_window.specs.Sliding.{View, ahead, kept_from, IsSound, SameRules, Took}
 use Rattle.csv_cutter.specs.declared.dialect.Dialect.{Dialect}
 use Rattle.csv_cutter.specs.declared.walk.State.{State}
 use Rattle.csv_cutter.specs.declared.looks.Look.{Look}
-use Rattle.csv_cutter.specs.declared.looks.Ahead.TheVariants.{Delimiter, ObjectEnd, More}
+use Rattle.csv_cutter.specs.declared.looks.Ahead.TheVariants.{Delimiter}
 use Rattle.csv_cutter.specs.declared.looks.Opening.{Opening}
 use Rattle.select_request.specs.declared.request.Delimiter.{Delimiter as RecordDelimiter}
 use Rattle.select_request.specs.declared.request.Delimiter.TheVariants.{One, Two}
 use Rattle.csv_cutter.specs.Dialects.{delimiter_bytes}
 use Rattle.csv_cutter.specs.Records.{delimiter_of}
-use Rattle.csv_cutter.specs.Stops.{stop_from, first_state, mark_len, body_len}
-use Rattle.csv_cutter.specs.Looks.{Moves, Stays, IsLook, Ends, IsOpening, IsEnding, IsWhole, IsFound}
+use Rattle.csv_cutter.specs.Stops.{stop_from, first_state, mark_len}
+use Rattle.csv_cutter.specs.Looks.{Moves, Stays, IsLook, Ends, IsOpening, IsEnding, IsWhole}
 use Rattle.csv_cutter.proofs.Stopping.{stop_nil, body_is}
 
 pub ahead_len : (v : View) → IsSound v → length (ahead v) ≡ v.upto - v.place

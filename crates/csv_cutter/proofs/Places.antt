@@ -1,17 +1,14 @@
 -- Places in a line, and walks between them.
-use Rattle.std.proofs.Common.{◌≡◌, ◌≢◌, ℕ, zero, suc, ◌+◌, ◌-◌, ◌≤◌, ◌<◌, Bool, true, false, cond, ◌&&◌, ◌||◌, ◌==◌, List, [], ◌∷◌, ◌++◌, map, take, drop, length, slice_index, slice_range, refl, sym, ◌∙◌, ap, subst, arith, append_assoc, length-append, length-drop, ⊎_elim, inl, inr, ◌⊎◌}
+use Rattle.std.proofs.Common.{◌≡◌, ◌≢◌, ℕ, zero, suc, ◌+◌, ◌-◌, ◌≤◌, ◌<◌, Bool, true, false, ◌&&◌, ◌||◌, ◌==◌, List, [], ◌∷◌, ◌++◌, take, drop, length, slice_index, slice_range, refl, sym, ◌∙◌, ap, subst, arith, length-drop, ⊎_elim}
 use Rattle.std.proofs.lemmas.Bool.{cases_lt}
-use Rattle.std.proofs.lemmas.Bool.Decides.{nat_tests}
-use Rattle.std.proofs.lemmas.List.{append-nil, get_or-drop, drop-drop, take-append-drop, drop_all, take_all}
+use Rattle.std.proofs.lemmas.List.{get_or-drop, drop-drop, take-append-drop, drop_all}
 use Rattle.std.proofs.Math.Seq.{take-add, drop-cons}
 use Rattle.std.specs.Str.{NonePass}
-use Rattle.std.specs.List.{onto_first}
 use Rattle.memchr.specs.Find.{Passes, Nowhere, NoneBefore, is_byte, is_byte2}
 use Rattle.csv_cutter.specs.declared.dialect.Dialect.{Dialect}
 use Rattle.csv_cutter.specs.declared.walk.State.{State}
 use Rattle.csv_cutter.specs.declared.walk.State.TheVariants.{Start, Tail, Inside, Paired}
-use Rattle.csv_cutter.specs.Fields.{IsUncut}
-use Rattle.csv_cutter.specs.Walk.{is_outside, special, is_cut, step, cut_from, cut_fields, Goes, onto, IsNext, Comes, EndsField}
+use Rattle.csv_cutter.specs.Walk.{special, is_cut, step, cut_from, Goes, onto, IsNext, Comes, EndsField}
 use Rattle.csv_cutter.proofs.Characters.{eq_self, eq_not, eq_is, not_eq, clash, IsApart}
 use Rattle.csv_cutter.proofs.Lines.{goes_cut, goes_one, tail_goes, onto_append, cut_nil, inside_single, inside_closing, inside_escape, start_quote, start_as_tail}
 

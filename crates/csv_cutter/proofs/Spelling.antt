@@ -1,9 +1,8 @@
 -- A walk over the bytes of a line goes as one over its characters.
-use Rattle.std.proofs.Common.{◌↔◌, ◌≡◌, ◌≢◌, ℕ, zero, suc, ◌+◌, ◌-◌, ◌≤◌, ◌<◌, Bool, true, false, cond, ◌&&◌, ◌||◌, ◌==◌, List, [], ◌∷◌, ◌++◌, map, take, drop, length, slice_index, slice_range, refl, sym, ◌∙◌, ap, subst, arith, append_assoc, length-append, length-drop, ⊎_elim, inl, inr, ◌⊎◌}
+use Rattle.std.proofs.Common.{◌↔◌, ◌≡◌, ◌≢◌, ℕ, suc, ◌≤◌, ◌<◌, Bool, true, false, cond, ◌&&◌, ◌||◌, ◌==◌, List, [], ◌∷◌, ◌++◌, map, drop, length, slice_index, refl, sym, ◌∙◌, ap, subst, arith, ⊎_elim}
 use Rattle.std.proofs.lemmas.Bool.{cases_lt}
-use Rattle.std.proofs.lemmas.Bool.Decides.{nat_tests}
 use Rattle.std.proofs.lemmas.List.{append-nil}
-use Rattle.std.proofs.lemmas.Str.{chars-nil, chars-encodes, chars-append, encode_ascii, IsUtf8-encode, inside_one, encodes-chars, scalars-chars, chars_past_char, length-encode, len_utf8_bounds, byte_from_char}
+use Rattle.std.proofs.lemmas.Str.{chars-nil, chars-append, encode_ascii, IsUtf8-encode, inside_one, encodes-chars, scalars-chars, chars_past_char, length-encode, len_utf8_bounds, byte_from_char}
 use Rattle.std.specs.Str.{chars, encode_utf8_all, IsUtf8}
 use Rattle.std.proofs.Math.Utf8.{scalar, scalars}
 use Rattle.std.specs.Char.{encode_utf8, IsScalar}
@@ -15,7 +14,7 @@ use Rattle.csv_cutter.specs.Fields.{begins_with}
 use Rattle.csv_cutter.specs.Reading.{IsPlainSpelled}
 use Rattle.text_view.specs.QuotedField.{IsPlainField}
 use Rattle.csv_cutter.specs.Walk.{is_outside, special, is_cut, step, cut_from, cut_fields, Goes, onto}
-use Rattle.csv_cutter.proofs.Characters.{eq_self, eq_not, eq_is, not_eq, clash, IsApart}
+use Rattle.csv_cutter.proofs.Characters.{eq_not, eq_is, IsApart}
 use Rattle.csv_cutter.proofs.Lines.{goes_cut, goes_one, onto_cons, cut_nil, cut_here, cut_onwards}
 
 -- bytes of characters past ASCII

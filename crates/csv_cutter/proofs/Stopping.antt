@@ -1,24 +1,20 @@
 -- Where a walk over a record stops is where the record ends.
-use Rattle.std.proofs.Common.{◌↔◌, ◌≡◌, ◌≢◌, ℕ, zero, suc, ◌+◌, ◌-◌, ◌≤◌, ◌<◌, Bool, true, false, cond, ◌&&◌, ◌||◌, ◌==◌, List, [], ◌∷◌, ◌++◌, map, take, drop, length, slice_index, refl, sym, ◌∙◌, ap, subst, arith, append_assoc, length-append, length-drop, ⊎_elim, inl, inr, ◌⊎◌}
+use Rattle.std.proofs.Common.{◌↔◌, ◌≡◌, ℕ, zero, suc, ◌+◌, ◌-◌, ◌≤◌, ◌<◌, Bool, true, false, cond, ◌&&◌, ◌==◌, List, [], ◌∷◌, ◌++◌, take, drop, length, slice_index, refl, sym, ◌∙◌, ap, subst, arith, length-drop, ⊎_elim, inl, inr}
 use Rattle.std.proofs.lemmas.Bool.{cases_lt}
-use Rattle.std.proofs.lemmas.Bool.Decides.{nat_tests}
-use Rattle.std.proofs.lemmas.List.{append-nil, get_or-drop, take-take, drop-drop, length-take, drop_all, take_all}
+use Rattle.std.proofs.lemmas.List.{append-nil, get_or-drop, take-take, drop-drop, length-take, take_all}
 use Rattle.std.proofs.lemmas.Slice.Eq.{bytes_eq-Decides}
 use Rattle.std.specs.Str.{bytes_eq}
-use Rattle.select_request.specs.declared.request.Delimiter.{Delimiter}
-use Rattle.select_request.specs.declared.request.Delimiter.TheVariants.{One, Two}
 use Rattle.line_window.specs.Delimiters.{StandsAt}
 use Rattle.line_window.specs.Cuts.{Cut, without_mark}
 use Rattle.csv_cutter.specs.declared.dialect.Dialect.{Dialect}
 use Rattle.csv_cutter.specs.declared.walk.State.{State}
 use Rattle.csv_cutter.specs.declared.walk.State.TheVariants.{Start, Tail, Inside, Paired, Comment}
-use Rattle.csv_cutter.specs.Dialects.{is_valid, delimiter_bytes}
-use Rattle.csv_cutter.specs.Fields.{begins_with, SpellsField, SpellsOpen, BeginsWithField, last_field, last_open, more_fields, SpellsTexts, SpellsFields, IsClosed}
-use Rattle.csv_cutter.specs.Walk.{is_outside, special, is_cut, step, Goes}
+use Rattle.csv_cutter.specs.Fields.{begins_with, SpellsField, BeginsWithField, last_field, last_open, more_fields, SpellsTexts, IsClosed}
+use Rattle.csv_cutter.specs.Walk.{is_outside, special, step, Goes}
 use Rattle.csv_cutter.specs.Records.{delimiter_of, content_at, MayEndWith, MayEnd, EndsRecord, delimited as ends_at_delimiter, unended, CutsRecord, AreRecords}
 use Rattle.csv_cutter.specs.Stops.{may_end, delimited, stops, stop_from, state_after, first_state, mark_len, content_len, body_len, cut_of}
-use Rattle.csv_cutter.proofs.Characters.{eq_self, eq_not, eq_is, not_eq, clash, IsApart, apart, Delimits, delimits}
-use Rattle.csv_cutter.proofs.Lines.{HasFields, has_fields, field_goes, open_goes, no_special}
+use Rattle.csv_cutter.proofs.Characters.{eq_self, eq_not, clash, IsApart, Delimits}
+use Rattle.csv_cutter.proofs.Lines.{has_fields, field_goes, open_goes, no_special}
 
 -- ---- the state behind some bytes
 

@@ -1,7 +1,5 @@
 -- A walk over bytes that are a front of an object's: what a stride leaves.
-use Rattle.std.proofs.Common.{◌↔◌, ◌≡◌, ◌≢◌, ℕ, zero, suc, ◌+◌, ◌-◌, ◌≤◌, ◌<◌, Bool, true, false, cond, ◌&&◌, ◌||◌, ◌==◌, List, [], ◌∷◌, ◌++◌, take, drop, length, slice_index, slice_range, refl, sym, ◌∙◌, ap, subst, arith, append_assoc, length-append, length-drop, ⊎_elim, inl, inr, ◌⊎◌}
-use Rattle.std.proofs.lemmas.Bool.{cases_lt}
-use Rattle.std.proofs.lemmas.Bool.Decides.{nat_tests}
+use Rattle.std.proofs.Common.{◌≡◌, ◌≢◌, ℕ, zero, suc, ◌+◌, ◌-◌, ◌≤◌, ◌<◌, Bool, true, false, cond, ◌&&◌, ◌==◌, List, [], ◌∷◌, ◌++◌, take, drop, length, slice_index, slice_range, refl, sym, ◌∙◌, ap, subst, arith, append_assoc, length-drop}
 use Rattle.std.proofs.lemmas.List.{append-nil, length-take}
 use Rattle.std.specs.Str.{bytes_eq, NonePass}
 use Rattle.memchr.specs.Find.{is_byte, is_byte2}
@@ -14,10 +12,10 @@ use Rattle.csv_cutter.specs.Dialects.{first_of}
 use Rattle.csv_cutter.specs.Walk.{special, step, IsNext}
 use Rattle.csv_cutter.specs.Records.{delimiter_of}
 use Rattle.csv_cutter.specs.Stops.{may_end, delimited, stops, stop_from, IsTold, IsUntold, Strides, StopsAt, IsStride, IsWalk}
-use Rattle.csv_cutter.proofs.Characters.{eq_self, eq_not, eq_is, not_eq, clash, IsApart, Delimits}
-use Rattle.csv_cutter.proofs.Lines.{tail_stays, start_plain, start_quote, inside_single, inside_closing, inside_escape}
-use Rattle.csv_cutter.proofs.Places.{range_split, here_cons, none_or_left, none_or_right, single_step, closing_step, pair_step, pair_next}
-use Rattle.csv_cutter.proofs.Stopping.{stop_nil, stop_here, stop_onwards, delimited_stands, stands_delimited, are_same}
+use Rattle.csv_cutter.proofs.Characters.{eq_self, eq_not, not_eq, clash, IsApart, Delimits}
+use Rattle.csv_cutter.proofs.Lines.{tail_stays, start_plain, start_quote, inside_single}
+use Rattle.csv_cutter.proofs.Places.{range_split, here_cons, none_or_left, none_or_right, pair_step, pair_next}
+use Rattle.csv_cutter.proofs.Stopping.{stop_here, stop_onwards, delimited_stands, are_same}
 
 -- ---- strides, one after the other
 

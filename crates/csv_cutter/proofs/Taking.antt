@@ -1,7 +1,7 @@
 -- The answers of a cutter are the next of the records that are left.
-use Rattle.std.proofs.Common.{◌≡◌, ℕ, zero, suc, ◌+◌, ◌-◌, ◌≤◌, ◌<◌, Bool, true, false, cond, ◌==◌, List, [], ◌∷◌, take, drop, length, refl, sym, ◌∙◌, ap, subst, arith, length-drop, max, min, Result, Ok, Err, IfOk, IsOk, IsErr, OnErr, is_err, ⊎_elim}
+use Rattle.std.proofs.Common.{◌≡◌, ℕ, ◌+◌, ◌-◌, ◌≤◌, ◌<◌, Bool, true, false, List, [], ◌∷◌, take, drop, length, refl, sym, ◌∙◌, ap, subst, arith, min, Result, Ok, Err, IfOk, IsOk, IsErr, OnErr, is_err, ⊎_elim}
 use Rattle.std.proofs.lemmas.Bool.{cases_lt}
-use Rattle.std.proofs.lemmas.List.{length-take, drop_all}
+use Rattle.std.proofs.lemmas.List.{length-take}
 use Rattle.select_ports.specs.declared.outcome.Failed.{Failed}
 use Rattle.select_ports.specs.Causes.{Rose}
 use Rattle.select_ports.specs.Stored.{Opened}
@@ -12,14 +12,14 @@ use Rattle.line_window.specs.Answers.{IsNextCut}
 use Rattle.csv_cutter.specs.declared.dialect.Dialect.{Dialect}
 use Rattle.csv_cutter.specs.declared.walk.State.{State}
 use Rattle.csv_cutter.specs.declared.looks.Look.{Look}
-use Rattle.csv_cutter.specs.declared.looks.Ahead.TheVariants.{Delimiter, ObjectEnd, More}
+use Rattle.csv_cutter.specs.declared.looks.Ahead.TheVariants.{Delimiter}
 use Rattle.csv_cutter.specs.declared.records.Pending.{Pending}
 use Rattle.csv_cutter.specs.declared.records.Pending.TheVariants.{Nothing, Passed, Rest}
 use Rattle.csv_cutter.specs.declared.records.QuotedRecords.{QuotedRecords}
 use Rattle.csv_cutter.specs.Records.{AreRecords, delimiter_of, content_at}
 use Rattle.csv_cutter.specs.Stops.{stop_from, body_len, cut_of}
 use Rattle.csv_cutter.specs.Looks.{Moves, Stays, IsLook, Ends, IsFound}
-use Rattle.csv_cutter.specs.Cutter.{pending_len, next_start, Left, IsReady, Settles, Finds, ShowsFound, FindsNext, TakesRecord, GoesOn, LendsLine, LendsRecord, StandsThere}
+use Rattle.csv_cutter.specs.Cutter.{pending_len, next_start, Left, IsReady, Settles, Finds, ShowsFound, FindsNext, TakesRecord, GoesOn, LendsLine, LendsRecord}
 use Rattle.csv_cutter.specs.Dialects.{is_valid}
 use Rattle.csv_cutter.specs.declared.looks.Found.{Found}
 use Rattle.csv_cutter.specs.declared.looks.Found.TheVariants.{Record, Long, Past}
@@ -27,7 +27,7 @@ use Rattle.line_window.specs.declared.line.Line.{Line}
 use Rattle.line_window.specs.declared.line.Line.TheVariants.{At, TooLong, End}
 use Rattle.csv_cutter.proofs.Characters.{clash, apart, delimits}
 use Rattle.csv_cutter.proofs.Stopping.{record_alone, body_within}
-use Rattle.csv_cutter.proofs.Moving.{ahead_len, moves_on, stays_none}
+use Rattle.csv_cutter.proofs.Moving.{moves_on, stays_none}
 
 -- ---- passing bytes
 

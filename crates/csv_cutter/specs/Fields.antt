@@ -1,6 +1,6 @@
 -- The fields of a CSV line (RFC 4180, section 2, with characters of the dialect's own, and with a reading for every line). The rule is
 -- one for lists of numbers: of a line's characters, and of its bytes.
-use Rattle.std.specs.Prelude.{◌≡◌, ◌↔◌, ℕ, Bool, true, false, ◌==◌, List, [], ◌∷◌, ◌++◌, if◌then◌else◌, drop}
+use Rattle.std.specs.Prelude.{◌≡◌, ℕ, Bool, true, false, ◌==◌, List, [], ◌∷◌, ◌++◌, if◌then◌else◌, drop}
 use Rattle.std.specs.Str.{NonePass}
 use Rattle.text_view.specs.QuotedField.{unquoted, begins_special, FieldPiece, print_field, field_text, AreFieldPieces}
 use Rattle.csv_cutter.specs.declared.dialect.Dialect.{Dialect}

@@ -1,5 +1,5 @@
 -- What reading a line gives: its fields as texts, or the fault that comes first.
-use Rattle.std.specs.Prelude.{◌≡◌, ℕ, ◌+◌, ◌<◌, ◌≤◌, Bool, true, false, List, [], ◌∷◌, length, map, take, All, Option, None, Some, Result, Ok, Err}
+use Rattle.std.specs.Prelude.{◌≡◌, ℕ, ◌<◌, ◌≤◌, true, List, [], ◌∷◌, length, map, take, All, Option, None, Some, Result, Ok, Err}
 use Rattle.std.specs.Str.{chars, IsUtf8}
 use Rattle.byte_masks.specs.declared.split.Span.{Span}
 use Rattle.byte_masks.specs.Parts.{part}
@@ -8,7 +8,7 @@ use Rattle.csv_cutter.specs.declared.dialect.Dialect.{Dialect}
 use Rattle.csv_cutter.specs.declared.fields.CsvFault.{CsvFault}
 use Rattle.csv_cutter.specs.declared.fields.CsvFault.TheVariants.{InvalidTextEncoding, TooManyFields}
 use Rattle.csv_cutter.specs.Dialects.{is_valid}
-use Rattle.csv_cutter.specs.Fields.{begins_with, SpellsFields, text_of}
+use Rattle.csv_cutter.specs.Fields.{SpellsFields, text_of}
 use Rattle.csv_cutter.specs.Walk.{cut_fields, IsLegible}
 
 -- the characters of a line have these fields, and not too many

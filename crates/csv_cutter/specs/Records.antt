@@ -1,6 +1,6 @@
 -- The records of an object whose quoted fields may hold record delimiters, as cuts: each ends at the first delimiter that stands outside
 -- of the quoted part of a field, or at the object's end.
-use Rattle.std.specs.Prelude.{◌≡◌, ℕ, ◌+◌, ◌-◌, ◌<◌, ◌≤◌, Bool, true, false, ◌==◌, ◌⊎◌, List, [], ◌∷◌, if◌then◌else◌, length, take, drop}
+use Rattle.std.specs.Prelude.{◌≡◌, ℕ, ◌+◌, ◌-◌, ◌<◌, ◌≤◌, true, ◌==◌, ◌⊎◌, List, [], ◌∷◌, if◌then◌else◌, length, take, drop}
 use Rattle.line_window.specs.Cuts.{Cut, without_mark}
 use Rattle.line_window.specs.Delimiters.{StandsAt}
 use Rattle.csv_cutter.specs.declared.dialect.Dialect.{Dialect}

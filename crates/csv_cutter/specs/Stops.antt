@@ -1,5 +1,5 @@
 -- A walk over a record, a byte at a time: where it stops. It serves the contracts of private functions alone.
-use Rattle.std.specs.Prelude.{◌≡◌, ℕ, zero, suc, ◌+◌, ◌-◌, ◌<◌, ◌≤◌, Bool, true, false, ◌==◌, ◌&&◌, List, [], ◌∷◌, ◌++◌, if◌then◌else◌, length, take, drop, min, bytes_eq}
+use Rattle.std.specs.Prelude.{◌≡◌, ℕ, suc, ◌+◌, ◌-◌, ◌<◌, ◌≤◌, Bool, true, false, ◌==◌, ◌&&◌, List, [], ◌∷◌, ◌++◌, if◌then◌else◌, length, take, drop, min, bytes_eq}
 use Rattle.line_window.specs.Delimiters.{StandsAt}
 use Rattle.line_window.specs.Cuts.{Cut}
 use Rattle.csv_cutter.specs.declared.dialect.Dialect.{Dialect}
@@ -7,7 +7,7 @@ use Rattle.csv_cutter.specs.declared.walk.State.{State}
 use Rattle.csv_cutter.specs.declared.walk.State.TheVariants.{Start, Tail, Inside, Paired, Comment}
 use Rattle.csv_cutter.specs.declared.stride.Stretch.{Stretch}
 use Rattle.csv_cutter.specs.Fields.{begins_with}
-use Rattle.csv_cutter.specs.Walk.{is_outside, special, step}
+use Rattle.csv_cutter.specs.Walk.{special, step}
 use Rattle.csv_cutter.specs.Records.{delimiter_of}
 
 -- a record may end in this state

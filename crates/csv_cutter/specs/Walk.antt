@@ -1,8 +1,7 @@
 -- A walk over a line, a character at a time: where its fields are cut. It serves the contracts of private functions alone.
-use Rattle.std.specs.Prelude.{◌≡◌, ℕ, ◌+◌, ◌-◌, ◌<◌, ◌≤◌, Bool, true, false, ◌==◌, ◌&&◌, ◌||◌, List, [], ◌∷◌, ◌++◌, if◌then◌else◌, length, map, take, drop, All, slice_index, slice_range, Option, None, Some}
-use Rattle.std.specs.Str.{chars, NonePass, IsUtf8, IsCharBoundary}
+use Rattle.std.specs.Prelude.{◌≡◌, ℕ, ◌<◌, ◌≤◌, Bool, true, false, ◌==◌, ◌&&◌, List, [], ◌∷◌, ◌++◌, if◌then◌else◌, length, drop, slice_index, slice_range}
+use Rattle.std.specs.Str.{NonePass, IsCharBoundary}
 use Rattle.byte_masks.specs.declared.split.Span.{Span}
-use Rattle.byte_masks.specs.Parts.{part}
 use Rattle.std.specs.List.{onto_first}
 use Rattle.text_view.specs.QuotedField.{begins_special}
 use Rattle.csv_cutter.specs.declared.dialect.Dialect.{Dialect}

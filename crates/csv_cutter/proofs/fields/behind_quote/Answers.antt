@@ -1,4 +1,4 @@
-use Rattle.std.proofs.Common.{◌≡◌, ◌<◌, ◌∷◌, arith, ap, sym, ◌∙◌, length, slice_index, rules}
+use Rattle.std.proofs.Common.{◌≡◌, ◌<◌, ◌∷◌, arith, ap, sym, ◌∙◌, length, slice_index}
 use Rattle.std.proofs.lemmas.Str.{IsCharBoundary-after_ascii}
 use Rattle.std.specs.Str.{chars}
 use Rattle.csv_cutter.proofs.Spelling.{quote_front, no_quote_front}

@@ -1,4 +1,3 @@
-use Rattle.std.proofs.Common.{length, ◌≤◌}
 use Rattle.csv_cutter.proofs.Cuts.{Cutting}
 use Rattle.csv_cutter.proofs.fields.cut_spans.Given as goal
 

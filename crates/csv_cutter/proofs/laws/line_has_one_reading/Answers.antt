@@ -1,4 +1,3 @@
-use Rattle.std.proofs.Common.{◌≡◌}
 use Rattle.csv_cutter.proofs.Characters.{apart}
 use Rattle.csv_cutter.proofs.Lines.{has_fields, fields_alone}
 use Rattle.csv_cutter.proofs.laws.line_has_one_reading.Goals as goal

@@ -1,8 +1,8 @@
-use Rattle.std.proofs.Common.{◌∙◌, sym, subst, refl, arith}
+use Rattle.std.proofs.Common.{subst, refl, arith}
 use Rattle.select_ports.specs.Stored.{Opened}
 use Rattle.csv_cutter.specs.declared.looks.Ahead.{Ahead}
 use Rattle.csv_cutter.specs.Looks.{Ends, Stays}
-use Rattle.csv_cutter.proofs.Moving.{stays_none, opening_ends, ending_on, ended_delimiter, ended_object}
+use Rattle.csv_cutter.proofs.Moving.{stays_none, opening_ends, ended_object}
 use Rattle.csv_cutter.proofs.looks.end_record.Goals as goal
 
 pub looks-init : goal.looks-init

@@ -1,7 +1,7 @@
 use Rattle.std.proofs.Common.{◌+◌, sym, subst, arith}
 use Rattle.csv_cutter.specs.Stops.{IsStride}
 use Rattle.csv_cutter.specs.declared.walk.State.{State}
-use Rattle.csv_cutter.specs.declared.walk.State.TheVariants.{Start, Tail, Inside, Paired}
+use Rattle.csv_cutter.specs.declared.walk.State.TheVariants.{Start, Inside, Paired}
 use Rattle.csv_cutter.proofs.Characters.{apart, delimits}
 use Rattle.csv_cutter.proofs.Striding.{went, start_quoted, start_stride, paired_one}
 use Rattle.csv_cutter.proofs.stride.stride.Goals as goal

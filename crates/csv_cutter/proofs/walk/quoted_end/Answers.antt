@@ -1,5 +1,4 @@
 use Rattle.std.proofs.Common.{◌∙◌, ◌+◌, sym, arith}
-use Rattle.csv_cutter.specs.Walk.{Comes}
 use Rattle.csv_cutter.specs.declared.walk.State.TheVariants.{Inside, Tail}
 use Rattle.csv_cutter.proofs.Places.{comes_on, clear_comes, pair_comes, closing_comes, single_comes, ended_comes}
 use Rattle.csv_cutter.proofs.walk.quoted_end.Goals as goal

@@ -1,4 +1,4 @@
-use Rattle.std.proofs.Common.{subst, sym, List, ℕ}
+use Rattle.std.proofs.Common.{subst, sym}
 use Rattle.csv_cutter.specs.Reading.{HasFields}
 use Rattle.csv_cutter.proofs.Characters.{apart}
 use Rattle.csv_cutter.proofs.Cuts.{first_read, fault_read}

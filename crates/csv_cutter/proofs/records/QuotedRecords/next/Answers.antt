@@ -1,5 +1,4 @@
-use Rattle.std.proofs.Common.{◌≡◌, refl, sym, subst, Result, Ok, ◌∙◌, arith}
-use Rattle.select_ports.specs.declared.outcome.Failed.{Failed}
+use Rattle.std.proofs.Common.{refl, sym, subst, Ok, ◌∙◌, arith}
 use Rattle.select_ports.specs.Stored.{Opened}
 use Rattle.csv_cutter.specs.declared.looks.Found.{Found}
 use Rattle.csv_cutter.specs.Cutter.{FindsNext, LendsRecord}

@@ -1,11 +1,11 @@
-use Rattle.std.proofs.Common.{◌≡◌, ◌+◌, ◌∙◌, sym, subst, refl, ap, length, ℕ}
+use Rattle.std.proofs.Common.{◌≡◌, ◌+◌, ◌∙◌, sym, subst, refl, ap, length}
 use Rattle.select_ports.specs.Stored.{Opened}
 use Rattle.csv_cutter.specs.declared.dialect.Dialect.{Dialect}
 use Rattle.csv_cutter.specs.declared.looks.Ahead.{Ahead}
 use Rattle.csv_cutter.specs.Looks.{Stays, IsLook, Ends}
-use Rattle.csv_cutter.specs.Records.{delimiter_of, AreRecords}
+use Rattle.csv_cutter.specs.Records.{delimiter_of}
 use Rattle.csv_cutter.proofs.Characters.{clash}
-use Rattle.csv_cutter.proofs.Taking.{settle_rest, rest_delimiter, rest_object, settle_failed, records_at}
+use Rattle.csv_cutter.proofs.Taking.{settle_rest, rest_delimiter, rest_object, records_at}
 use Rattle.csv_cutter.proofs.records.QuotedRecords.pass_rest.Goals as goal
 
 pub returns-in-Delimiter-clause-window : goal.returns-in-Delimiter-clause-window

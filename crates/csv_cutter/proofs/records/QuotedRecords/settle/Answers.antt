@@ -1,4 +1,4 @@
-use Rattle.csv_cutter.proofs.Taking.{settle_none, settle_passed}
+use Rattle.csv_cutter.proofs.Taking.{settle_none}
 use Rattle.csv_cutter.proofs.records.QuotedRecords.settle.Goals as goal
 
 pub returns-in-Nothing-clause-window : goal.returns-in-Nothing-clause-window
