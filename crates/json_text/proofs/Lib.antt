@@ -13,3 +13,5 @@ pub mod Skips
 pub mod Walking
 pub mod Quoted
 pub mod Membered
+pub mod Reading
+pub mod Lanes

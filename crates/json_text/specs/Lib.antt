@@ -3,6 +3,7 @@ pub mod Judged
 pub mod Machine
 pub mod Naming
 pub mod Nodes
+pub mod Runs
 pub mod Skipped
 pub mod Texts
 pub mod Trimmed
