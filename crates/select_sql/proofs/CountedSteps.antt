@@ -8,12 +8,12 @@ use Rattle.grammar_rules.specs.Rules.{takes, refuses}
 use Rattle.grammar_rules.specs.Readers.{found, failed, starts}
 use Rattle.grammar_rules.specs.CountedReaders.{read_one_more}
 use Rattle.sql_tokens.specs.Classes.{same_class}
-use Rattle.select_sql.specs.declared.tree.Expr.TheVariants as e
-use Rattle.select_sql.specs.Marks.{too_many, class, of, text_in}
+use Rattle.sql_grammar.specs.declared.tree.Expr.TheVariants as e
+use Rattle.sql_grammar.specs.Marks.{too_many, class, of, text_in}
 use Rattle.select_sql.specs.Parsing.{read_counted_token, text_at}
 use Rattle.grammar_rules.proofs.Counts.{one_more_refused}
-use Rattle.select_sql.specs.Readers.{begins, read_literal}
-use Rattle.select_sql.proofs.Combining.{seen_if}
+use Rattle.sql_grammar.specs.Readers.{begins, read_literal}
+use Rattle.sql_grammar.proofs.Combining.{seen_if}
 
 -- a test of the first token's class
 pub first_begins : (test : Class → Bool) → test k.NoToken ≡ false → (ts : List Symbol) → test (first_class ts) ≡ starts (begins test) ts

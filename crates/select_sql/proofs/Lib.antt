@@ -1,17 +1,3 @@
-pub mod Combining
 pub mod CountedSteps
-pub mod ExpressionReads
-pub mod FactoredCalls
-pub mod Forms
-pub mod ItemReads
-pub mod NamedAll
-pub mod OneParse
-pub mod PartReads
 pub mod PathSteps
-pub mod Primaries
-pub mod PrimaryReads
-pub mod QueryReads
-pub mod Regrouping
-pub mod Sights
-pub mod SourceReads
 pub mod TokenSteps

@@ -2,20 +2,20 @@
 use Rattle.std.proofs.Common.{◌≡◌, ℕ, true, false, List, [], ◌∷◌, ◌++◌, ◌-◌, ◌<◌, length, drop, Option, Some, None, refl, sym, ◌∙◌}
 use Rattle.sql_tokens.specs.declared.class.Class.TheVariants as k
 use Rattle.sql_tokens.specs.Cutting.{Symbol, first_class}
-use Rattle.select_sql.specs.declared.tree.Name.{Name}
-use Rattle.select_sql.specs.declared.tree.PathStep.TheVariants as step
-use Rattle.select_sql.specs.declared.tree.PathStep.{PathStep}
-use Rattle.select_sql.specs.declared.tree.Expr.{Expr}
-use Rattle.select_sql.specs.declared.tree.Expr.TheVariants as e
+use Rattle.sql_grammar.specs.declared.tree.Name.{Name}
+use Rattle.sql_grammar.specs.declared.tree.PathStep.TheVariants as step
+use Rattle.sql_grammar.specs.declared.tree.PathStep.{PathStep}
+use Rattle.sql_grammar.specs.declared.tree.Expr.{Expr}
+use Rattle.sql_grammar.specs.declared.tree.Expr.TheVariants as e
 use Rattle.grammar_rules.specs.Readers.{Outcome, found, failed, starts, read_terminal}
 use Rattle.grammar_rules.specs.CountedReaders.{read_links}
 use Rattle.grammar_rules.proofs.CountedMany.{CountedShrinks, counted_shrinks, chain_begin, chain_fail, links_step, links_stop, links_fail}
-use Rattle.select_sql.specs.Marks.{Fault, too_many, of, name, digits, name_of, is_path_name}
-use Rattle.select_sql.specs.Expressions.{path_step}
+use Rattle.sql_grammar.specs.Marks.{Fault, too_many, of, name, digits, name_of, is_path_name}
+use Rattle.sql_grammar.specs.Expressions.{path_step}
 use Rattle.select_sql.specs.Parsing.{name_at}
-use Rattle.select_sql.specs.Readers.{begins, is_step, read_path_step, read_path_name, read_path}
-use Rattle.select_sql.proofs.Combining.{on, one}
-use Rattle.select_sql.proofs.PartReads.{reads-path_step}
+use Rattle.sql_grammar.specs.Readers.{begins, is_step, read_path_step, read_path_name, read_path}
+use Rattle.sql_grammar.proofs.Combining.{on, one}
+use Rattle.sql_grammar.proofs.PartReads.{reads-path_step}
 use Rattle.select_sql.proofs.CountedSteps.{first_begins, counted_refused, counted_over, counted_taken}
 
 -- behind the first token

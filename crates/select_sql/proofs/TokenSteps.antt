@@ -8,9 +8,9 @@ use Rattle.sql_tokens.specs.Cutting.{Symbol, first_class}
 use Rattle.sql_tokens.proofs.ClassLaws.{every}
 use Rattle.grammar_rules.specs.Readers.{starts}
 use Rattle.grammar_rules.proofs.Classes.{agree}
-use Rattle.select_sql.specs.Marks.{of, is_name}
+use Rattle.sql_grammar.specs.Marks.{of, is_name}
 use Rattle.select_sql.specs.Parsing.{is_token, between}
-use Rattle.select_sql.proofs.ExpressionReads.{same_truth}
+use Rattle.sql_grammar.proofs.ExpressionReads.{same_truth}
 
 names_between : list_all (λ c. agree (between k.Name k.TimezoneMinuteCalled c || between k.CoalesceCalled k.ToTimestampCalled c) (is_name c)) all_classes ≡ true
 names_between = refl

@@ -1,8 +1,1 @@
-pub mod Expressions
-pub mod Faults
-pub mod Forms
-pub mod Marks
 pub mod Parsing
-pub mod Queries
-pub mod QueryReaders
-pub mod Readers

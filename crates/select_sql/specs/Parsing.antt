@@ -6,13 +6,13 @@ use Rattle.sql_tokens.specs.Classes.{code}
 use Rattle.sql_tokens.specs.Cutting.{Symbol}
 use Rattle.sql_tokens.specs.Payloads.{first_of, word_of, quoted_of, text_of, first_number, undoubled}
 use Rattle.sql_decimal.specs.declared.number.Num.{Num}
-use Rattle.select_sql.specs.declared.tree.Name.{Name}
+use Rattle.sql_grammar.specs.declared.tree.Name.{Name}
 use Rattle.select_sql.specs.declared.stop.Stop.{Stop}
 use Rattle.select_sql.specs.declared.stop.Stop.TheVariants as stop
 use Rattle.grammar_rules.specs.Readers.{Outcome, found, failed, starts, read_made}
 use Rattle.grammar_rules.specs.CountedReaders.{CountedReader, read_one_more}
-use Rattle.select_sql.specs.Expressions.{word}
-use Rattle.select_sql.specs.Marks.{Fault, unknown_function, aggregate_mixed, unsupported_type, bad_escape, wrong_number, too_deep, too_many, of, name_by, or_nothing, number_or_zero}
+use Rattle.sql_grammar.specs.Expressions.{word}
+use Rattle.sql_grammar.specs.Marks.{Fault, unknown_function, aggregate_mixed, unsupported_type, bad_escape, wrong_number, too_deep, too_many, of, name_by, or_nothing, number_or_zero}
 
 -- the fault that a stop tells
 abbrev pub fault_of : Stop → Option Fault

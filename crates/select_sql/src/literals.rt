@@ -2,14 +2,14 @@
 ghost use Rattle.std.specs.Prelude.{◌≡◌, true};
 ghost use Rattle.sql_tokens.specs.Classes.{same_class};
 ghost use Rattle.sql_tokens.specs.declared.class.Class.TheVariants as k;
-ghost use Rattle.select_sql.specs.declared.tree.Expr.TheVariants as e;
-ghost use Rattle.select_sql.specs.Marks.{text_in};
+ghost use Rattle.sql_grammar.specs.declared.tree.Expr.TheVariants as e;
+ghost use Rattle.sql_grammar.specs.Marks.{text_in};
 ghost use Rattle.select_sql.specs.Parsing.{GivesCounted, is_token, read_counted_token};
-ghost use Rattle.select_sql.specs.Readers.{read_literal};
+ghost use Rattle.sql_grammar.specs.Readers.{read_literal};
 
 use crate::stop::Stop;
 use crate::tokens::{sees, text_at};
-use crate::tree::Expr;
+use sql_grammar::Expr;
 use sql_tokens::{Class, Tokens};
 use std::alloc::Global;
 

@@ -1,12 +1,12 @@
 //! Paths of an expression.
 ghost use Rattle.std.specs.Prelude.{◌≡◌, ℕ};
-ghost use Rattle.select_sql.specs.Marks.{is_path_name};
+ghost use Rattle.sql_grammar.specs.Marks.{is_path_name};
 ghost use Rattle.select_sql.specs.Parsing.{GivesCounted};
-ghost use Rattle.select_sql.specs.Readers.{is_step, read_path_step, read_path_name, read_path};
+ghost use Rattle.sql_grammar.specs.Readers.{is_step, read_path_step, read_path_name, read_path};
 
 use crate::stop::Stop;
 use crate::tokens::{digits, expect, name, name_at, sees};
-use crate::tree::{Expr, Name, PathStep};
+use sql_grammar::{Expr, Name, PathStep};
 use sql_tokens::{Class, Tokens};
 use sqlite_items::Items;
 use std::alloc::Global;

@@ -1,11 +1,11 @@
 //! Single tokens of a query: names, texts, numbers and marks.
 ghost use Rattle.std.specs.Prelude.{◌≡◌, true, false, IfOk};
 ghost use Rattle.grammar_rules.specs.Readers.{starts, read_terminal};
-ghost use Rattle.select_sql.specs.Marks.{of, is_name, name, text, whole_of, digits_within};
+ghost use Rattle.sql_grammar.specs.Marks.{of, is_name, name, text, whole_of, digits_within};
 ghost use Rattle.select_sql.specs.Parsing.{Gives, Expects, is_token, between, name_at, text_at, number_at};
 
 use crate::stop::Stop;
-use crate::tree::Name;
+use sql_grammar::Name;
 use sql_decimal::Num;
 use sql_tokens::{Class, TextBuf, Tokens};
 use std::alloc::{AllocError, Global};

@@ -1,6 +1,6 @@
 -- What the loop over the steps has read.
 use Rattle.std.proofs.Common.{◌≡◌, length}
-use Rattle.select_sql.specs.Readers.{read_path}
+use Rattle.sql_grammar.specs.Readers.{read_path}
 use Rattle.select_sql.proofs.PathSteps.{path_left}
 use Rattle.select_sql.proofs.path.path.Given as goal
 

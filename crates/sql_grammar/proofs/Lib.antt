@@ -1,0 +1,14 @@
+pub mod Combining
+pub mod ExpressionReads
+pub mod FactoredCalls
+pub mod Forms
+pub mod ItemReads
+pub mod NamedAll
+pub mod OneParse
+pub mod PartReads
+pub mod Primaries
+pub mod PrimaryReads
+pub mod QueryReads
+pub mod Regrouping
+pub mod Sights
+pub mod SourceReads

@@ -1,0 +1,2 @@
+//! The text of each query.
+#![tactic(auto)]
