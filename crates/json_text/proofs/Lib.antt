@@ -15,3 +15,4 @@ pub mod Quoted
 pub mod Membered
 pub mod Reading
 pub mod Lanes
+pub mod Squeezing

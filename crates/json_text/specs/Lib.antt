@@ -1,3 +1,4 @@
+pub mod Compact
 pub mod Grammar
 pub mod Judged
 pub mod Machine

@@ -3,6 +3,7 @@
 
 mod bytes;
 mod checking;
+mod compact;
 mod elements;
 mod judge;
 mod machine;

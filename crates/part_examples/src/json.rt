@@ -1,7 +1,9 @@
 //! Worked examples: JSON values and their parts by index, by name and in order, and the faults of texts with their places.
 use json_text::{JsonCode, JsonNode, Kind, check};
+use std::alloc::Global;
 use std::process::Abort;
 use std::test::Fail;
+use text_view::Buf;
 
 /// Texts that are refused, each with its fault's place.
 fn refused(rt: &impl Abort, texts: &[(&[u8], JsonCode, u64)]) {
@@ -101,6 +103,23 @@ fn texts(rt: &impl Abort, strings: &[(&str, &str, u64)]) {
     }
 }
 
+/// Values without blanks, and one byte more than there is room for.
+fn compacted(alloc: Global, rt: &impl Abort, values: &[(&str, &str)]) -> Result<(), Fail> {
+    for (text, wanted) in values {
+        match check(text.as_bytes()) {
+            Ok(node) => {
+                let mut out = Buf::make(alloc, wanted.len())?;
+                assert!(rt; node.write_compact(&mut out).is_ok());
+                assert!(rt; out.bytes() == wanted.as_bytes(), "{text}");
+                assert!(rt; node.write_compact(&mut out).is_err());
+                assert!(rt; out.bytes() == wanted.as_bytes(), "{text}");
+            }
+            Err(_) => assert!(rt; false),
+        }
+    }
+    Ok(())
+}
+
 #[test]
 fn faults_and_kinds(rt: HostRuntime) -> Result<(), Fail> {
     let deep = [b'['; 65];
@@ -183,5 +202,16 @@ fn members_and_texts(rt: HostRuntime) -> Result<(), Fail> {
             ("\"plain\"", "plain", 5),
         ],
     );
-    Ok(())
+    compacted(
+        rt.alloc(),
+        &rt,
+        &[
+            (
+                " { \"a b\" : [ 1 ,\t{ } ] , \"c\" : \" \\\" x \" }\n",
+                "{\"a b\":[1,{}],\"c\":\" \\\" x \"}",
+            ),
+            ("[1,2]", "[1,2]"),
+            ("\"é \"", "\"é \""),
+        ],
+    )
 }
