@@ -32,19 +32,29 @@ fn pair(alloc: Global, a: Expr, b: Expr) -> Result<Items<Expr>, AllocError> {
     Ok(members)
 }
 
-/// `(a OR b) AND NOT c <= 7`.
-fn condition(alloc: Global) -> Result<Expr, AllocError> {
+/// `a OR b`.
+fn either(alloc: Global) -> Result<Expr, AllocError> {
     let a = path(alloc, "a")?;
-    let either = Expr::Or(pair(alloc, a, path(alloc, "b")?)?);
+    let b = path(alloc, "b")?;
+    Ok(Expr::Or(pair(alloc, a, b)?))
+}
+
+/// `c <= 7`.
+fn comparison(alloc: Global) -> Result<Expr, AllocError> {
     let left = Boxed::new(alloc, path(alloc, "c")?)?;
     let right = Boxed::new(alloc, Expr::Number(Num::Int(7)))?;
-    let comparison = Expr::Compare {
+    Ok(Expr::Compare {
         op: CompareOp::AtMost,
         left,
         right,
-    };
-    let not = Expr::Not(Boxed::new(alloc, comparison)?);
-    Ok(Expr::And(pair(alloc, either, not)?))
+    })
+}
+
+/// `(a OR b) AND NOT c <= 7`.
+fn condition(alloc: Global) -> Result<Expr, AllocError> {
+    let not = Boxed::new(alloc, comparison(alloc)?)?;
+    let either = either(alloc)?;
+    Ok(Expr::And(pair(alloc, either, Expr::Not(not))?))
 }
 
 /// All of the records that meet a condition.
