@@ -45,6 +45,19 @@ fn check_texts(rt: &impl Abort, rows: &[TextRow]) -> Result<(), Fail> {
     Ok(())
 }
 
+/// `date_add` of one of the parts that it takes; another part moves nothing.
+fn add(stamp: &Stamp, part: Part, n: i64) -> Result<Stamp, ValueFault> {
+    match part {
+        Part::Year => stamp.date_add(Part::Year, n),
+        Part::Month => stamp.date_add(Part::Month, n),
+        Part::Day => stamp.date_add(Part::Day, n),
+        Part::Hour => stamp.date_add(Part::Hour, n),
+        Part::Minute => stamp.date_add(Part::Minute, n),
+        Part::Second => stamp.date_add(Part::Second, n),
+        Part::TimezoneHour | Part::TimezoneMinute => Ok(*stamp),
+    }
+}
+
 fn check_move(
     rt: &impl Abort,
     text: &str,
@@ -52,7 +65,7 @@ fn check_move(
     n: i64,
     want: Option<&str>,
 ) -> Result<(), Fail> {
-    let moved = stamp(text)?.date_add(part, n);
+    let moved = add(&stamp(text)?, part, n);
     match want {
         Some(printed) => assert_eq!(rt;
             moved.map_err(|_| "out of range")?.print().as_str(),
@@ -66,10 +79,7 @@ fn check_move(
 
 fn check_moves(rt: &impl Abort, rows: &[MoveRow]) -> Result<(), Fail> {
     for (text, part, n, want) in rows {
-        match part {
-            Part::TimezoneHour | Part::TimezoneMinute => (),
-            _ => check_move(rt, text, *part, *n, *want)?,
-        }
+        check_move(rt, text, *part, *n, *want)?;
     }
     Ok(())
 }
