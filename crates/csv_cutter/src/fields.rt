@@ -1,5 +1,5 @@
 //! The fields of a line, lent as texts.
-ghost use Rattle.std.specs.Prelude.{◌≡◌, ℕ, ◌+◌, ◌<◌, ◌≤◌, ◌^◌, true, false, List, length, map, take, All, slice_get, slice_index, slice_range, Option, None, Some, Result, Ok, Err, IfOk, IfSome, IsSome, MatchOption, ◌∷◌, ◌↔◌};
+ghost use Rattle.std.specs.Prelude.{◌≡◌, ℕ, ◌+◌, ◌<◌, ◌≤◌, ◌^◌, true, false, List, length, map, take, All, slice_get, slice_index, slice_range, Option, None, Some, Result, Ok, Err, IfOk, IfSome, IsSome, IsTrue, MatchOption, ◌∷◌, ◌↔◌};
 ghost use Rattle.byte_masks.specs.Parts.{part};
 ghost use Rattle.std.specs.Str.{chars, IsUtf8};
 ghost use Rattle.csv_cutter.specs.Dialects.{is_valid};
@@ -165,6 +165,14 @@ fn cut_spans(dialect: &Dialect, line: &[u8], spans: &mut [Span]) -> Option<usize
     None
 }
 
+// Whether a line is UTF-8. Most lines are ASCII, and to tell so is fast.
+#[inline]
+fn is_text(line: &[u8]) -> bool
+    ensures { IsTrue result ↔ IsUtf8 line.now }
+{
+    line.is_ascii() || simdutf8::is_utf8(line)
+}
+
 // Finds where the first fields of a line lie. A line of fewer than 65,536 bytes can't have too many, and isn't cut behind them.
 #[inline]
 fn find_first(
@@ -181,7 +189,7 @@ fn find_first(
     if line.len() >= MOST_FIELDS {
         return front_of_all(dialect, line, spans, wanted);
     }
-    if !simdutf8::is_utf8(line) {
+    if !is_text(line) {
         return Err(CsvFault::InvalidTextEncoding);
     }
     Ok(cut_first(dialect, line, spans, wanted))
