@@ -1,12 +1,13 @@
 -- The first fields of a line: where they lie, and what they stand for.
-use Rattle.std.proofs.Common.{◌≡◌, ℕ, zero, suc, ◌+◌, ◌≤◌, ◌<◌, Bool, true, false, List, [], ◌∷◌, map, take, drop, length, refl, sym, ◌∙◌, ap, subst, arith}
+use Rattle.std.proofs.Common.{◌≡◌, ℕ, zero, suc, ◌+◌, ◌≤◌, ◌<◌, Bool, true, false, List, [], ◌∷◌, map, take, drop, length, refl, sym, ◌∙◌, ap, subst, arith, ⊎_elim}
 use Rattle.std.proofs.lemmas.List.{length-set, take_all, take_at, take-take, length-map, length-take-le}
+use Rattle.std.proofs.lemmas.Bool.{cases_lt}
 use Rattle.std.proofs.lemmas.List.Elements.{All-take}
 use Rattle.std.proofs.Math.ListN.{set}
 use Rattle.std.specs.List.{All, onto_first}
 use Rattle.std.specs.Str.{chars, IsUtf8}
 use Rattle.byte_masks.specs.declared.split.Span.{Span}
-use Rattle.byte_masks.specs.Parts.{part}
+use Rattle.byte_masks.specs.Parts.{part, Cuts, IsPlain}
 use Rattle.csv_cutter.specs.declared.dialect.Dialect.{Dialect}
 use Rattle.csv_cutter.specs.declared.walk.State.{State}
 use Rattle.csv_cutter.specs.declared.walk.State.TheVariants.{Start}
@@ -16,7 +17,7 @@ use Rattle.csv_cutter.specs.Reading.{texts_at, HasFirst, AreFirst, AreWanted}
 use Rattle.csv_cutter.proofs.Characters.{IsApart}
 use Rattle.csv_cutter.proofs.Lines.{cut_nil, cut_here, cut_onwards, fields_cut}
 use Rattle.csv_cutter.proofs.Spelling.{has_first, cut_chars}
-use Rattle.csv_cutter.proofs.Cuts.{Cutting, cutting_begins, cutting_goes, cutting_full, texts_are}
+use Rattle.csv_cutter.proofs.Cuts.{Cutting, cutting_begins, cutting_goes, cutting_full, plain_first, plain_many, texts_are}
 
 -- ---- a short line hasn't too many
 
@@ -99,6 +100,13 @@ front_wanted d line spans wanted count l f =
       parts = ap (map (part line)) (sym front) ∙ map_take (part line) wanted (take count spans) ∙ ap (take wanted) f.parts;
       legible = subst (All (IsLegible line)) front (All-take (IsLegible line) wanted (take count spans) f.legible);
     }
+
+-- a plain line that is short was cut
+pub plain_few : (d : Dialect) (line : List ℕ) (spans : List Span) (count : ℕ) → length line < 65536 → count ≤ length spans → IsPlain d.quote line
+    → Cuts d.field line (take count spans) → AreFirst d line count spans
+plain_few d line spans count small room plain cuts =
+    let few : count ≤ 65536 = ⊎_elim (λ many. absurd (omega (arith, plain_many d line spans count room many plain cuts, cut_len d Start line))) (λ l. l) (cases_lt 65536 count) in
+    plain_first d line spans count room few plain cuts
 
 -- ---- what they stand for
 

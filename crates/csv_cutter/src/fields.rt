@@ -173,7 +173,8 @@ fn is_text(line: &[u8]) -> bool
     line.is_ascii() || simdutf8::is_utf8(line)
 }
 
-// Finds where the first fields of a line lie. A line of fewer than 65,536 bytes can't have too many, and isn't cut behind them.
+// Finds where the first fields of a line lie. A line of fewer than 65,536 bytes can't have too many, and isn't cut behind them where they
+// are few for its length.
 #[inline]
 fn find_first(
     dialect: &Dialect,
@@ -189,6 +190,46 @@ fn find_first(
     if line.len() >= MOST_FIELDS {
         return front_of_all(dialect, line, spans, wanted);
     }
+    if wanted > line.len() / 64 {
+        return find_many(dialect, line, spans, wanted);
+    }
+    find_few(dialect, line, spans, wanted)
+}
+
+// Finds where the first fields of a short line lie: at its field bytes, where it is plain.
+#[inline]
+fn find_many(
+    dialect: &Dialect,
+    line: &[u8],
+    spans: &mut [Span],
+    wanted: usize,
+) -> Result<usize, CsvFault>
+    requires valid { is_valid dialect.now ≡ true }
+    requires small { length line.now < 65536 }
+    requires room { 65536 ≤ length spans.old }
+    ensures { IsFilledFirst dialect.now line.now wanted spans.new result }
+{
+    if let Some(count) = split_plain(line, dialect.field, dialect.quote, spans) {
+        if wanted < count {
+            return Ok(wanted);
+        }
+        return Ok(count);
+    }
+    find_few(dialect, line, spans, wanted)
+}
+
+// Finds where the first fields of a short line lie, one after the other.
+fn find_few(
+    dialect: &Dialect,
+    line: &[u8],
+    spans: &mut [Span],
+    wanted: usize,
+) -> Result<usize, CsvFault>
+    requires valid { is_valid dialect.now ≡ true }
+    requires small { length line.now < 65536 }
+    requires room { 65536 ≤ length spans.old }
+    ensures { IsFilledFirst dialect.now line.now wanted spans.new result }
+{
     if !is_text(line) {
         return Err(CsvFault::InvalidTextEncoding);
     }
