@@ -178,7 +178,7 @@ plain_many d line spans count room many plain cuts =
 
 -- ---- what the spans cut out
 
-texts_are : (d : Dialect) (line : List ℕ) (spans : List Span) → texts_at d line spans ≡ map (text_of d) (map chars (map (part line) spans))
+pub texts_are : (d : Dialect) (line : List ℕ) (spans : List Span) → texts_at d line spans ≡ map (text_of d) (map chars (map (part line) spans))
 texts_are d line [] = refl
 texts_are d line (span ∷ spans) = ap (λ l. text_at d line span ∷ l) (texts_are d line spans)
 

@@ -3,6 +3,7 @@ pub mod Lines
 pub mod Places
 pub mod Spelling
 pub mod Cuts
+pub mod Firsts
 pub mod Stopping
 pub mod Striding
 pub mod Looking

@@ -30,6 +30,17 @@ IsRead d line (Ok texts) = HasFields d line texts
 IsRead d line (Err InvalidTextEncoding) = ¬ (IsUtf8 line)
 IsRead d line (Err TooManyFields) = HasTooMany d line
 
+-- of the texts that a line's fields stand for, these are the first ones
+pub record HasFirst (d : Dialect) (line : List ℕ) (wanted : ℕ) (lent : List (List ℕ)) : Type 0 where
+  pub texts : List (List ℕ)
+  pub read : IsRead d line (Ok texts)
+  pub first : lent ≡ take wanted texts
+
+-- the first fields of a line's bytes, or why there are none: the faults are those of the whole line
+abbrev pub IsReadFirst : Dialect → List ℕ → ℕ → Result (List (List ℕ)) CsvFault → Type 0
+IsReadFirst d line wanted (Ok lent) = HasFirst d line wanted lent
+IsReadFirst d line wanted (Err fault) = IsRead d line (Err fault)
+
 -- ---- the contracts of private functions
 
 -- the text of the field that a span cuts out
@@ -61,6 +72,18 @@ abbrev pub IsFilled : Dialect → List ℕ → List Span → Result ℕ CsvFault
 IsFilled d line spans (Ok count) = IsUtf8 line × AreFirst d line count spans
 IsFilled d line spans (Err InvalidTextEncoding) = ¬ (IsUtf8 line)
 IsFilled d line spans (Err TooManyFields) = IsUtf8 line × (65536 < length (cut_fields d line))
+
+-- the first spans are those of the first fields that are wanted
+pub record AreWanted (d : Dialect) (line : List ℕ) (wanted count : ℕ) (spans : List Span) : Type 0 where
+  pub within : count ≤ length spans
+  pub few : length (cut_fields d line) ≤ 65536
+  pub parts : map (part line) (take count spans) ≡ take wanted (cut_fields d line)
+  pub legible : All (IsLegible line) (take count spans)
+
+-- spans were written for the first fields of a line of any bytes
+abbrev pub IsFilledFirst : Dialect → List ℕ → ℕ → List Span → Result ℕ CsvFault → Type 0
+IsFilledFirst d line wanted spans (Ok count) = IsUtf8 line × AreWanted d line wanted count spans
+IsFilledFirst d line wanted spans (Err fault) = IsFilled d line spans (Err fault)
 
 -- a spelled field is a slice of its own characters: it isn't quoted, or no quote and no escape stands behind its opening quote but for a
 -- closing quote at its end

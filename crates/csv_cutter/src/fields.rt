@@ -1,11 +1,11 @@
 //! The fields of a line, lent as texts.
-ghost use Rattle.std.specs.Prelude.{◌≡◌, ℕ, ◌+◌, ◌<◌, ◌≤◌, ◌^◌, true, false, List, length, map, take, All, slice_get, slice_index, slice_range, Option, None, Some, Result, Ok, Err, IfOk, IfSome, IsSome, MatchOption, ◌∷◌, ◌↔◌};
+ghost use Rattle.std.specs.Prelude.{◌≡◌, ℕ, ◌+◌, ◌<◌, ◌≤◌, ◌^◌, true, false, List, length, map, take, All, slice_get, slice_index, slice_range, Option, None, Some, Result, Ok, Err, IfOk, IfSome, IsSome, IsTrue, MatchOption, ◌∷◌, ◌↔◌};
 ghost use Rattle.byte_masks.specs.Parts.{part};
 ghost use Rattle.std.specs.Str.{chars, IsUtf8};
 ghost use Rattle.csv_cutter.specs.Dialects.{is_valid};
 ghost use Rattle.csv_cutter.specs.Fields.{begins_with, text_of};
 ghost use Rattle.csv_cutter.specs.Walk.{IsLegible};
-ghost use Rattle.csv_cutter.specs.Reading.{IsRead, text_at, IsFilled, IsCutInto, IsPlainSpelled};
+ghost use Rattle.csv_cutter.specs.Reading.{IsRead, IsReadFirst, text_at, IsFilled, IsFilledFirst, IsCutInto, AreWanted, IsPlainSpelled};
 
 use crate::Dialect;
 use crate::walk::field_end;
@@ -72,9 +72,25 @@ impl Spans {
         find_spans(dialect, line, self.spans.as_mut_slice())
     }
 
+    // Finds where the first fields of a line lie, and how many of them there are.
+    fn fill_first(
+        &mut self,
+        dialect: &Dialect,
+        line: &[u8],
+        wanted: usize,
+    ) -> Result<usize, CsvFault>
+        requires valid { is_valid dialect.now ≡ true }
+        requires short { length line.now < 2 ^ 31 }
+        ensures { IsFilledFirst dialect.now line.now wanted self.new.spans.items result }
+    {
+        find_first(dialect, line, self.spans.as_mut_slice(), wanted)
+    }
+
     fn lend<'r>(&'r self, dialect: &Dialect, line: &'r [u8], count: usize) -> Fields<'r>
         requires valid { is_valid dialect.now ≡ true }
-        requires filled { IsFilled dialect.now line.now self.now.spans.items (Ok count) }
+        requires utf8 { IsUtf8 line.now }
+        requires within { count ≤ length self.now.spans.items }
+        requires legible { All (IsLegible line.now) (take count self.now.spans.items) }
         ensures { result ≡ map (text_at dialect.now line.now) (take count self.now.spans.items) }
     {
         let text = unsafe { std::str::from_utf8_unchecked(line) };
@@ -149,6 +165,124 @@ fn cut_spans(dialect: &Dialect, line: &[u8], spans: &mut [Span]) -> Option<usize
     None
 }
 
+// Whether a line is UTF-8. Most lines are ASCII, and to tell so is fast.
+#[inline]
+fn is_text(line: &[u8]) -> bool
+    ensures { IsTrue result ↔ IsUtf8 line.now }
+{
+    line.is_ascii() || simdutf8::is_utf8(line)
+}
+
+// Finds where the first fields of a line lie. A line of fewer than 65,536 bytes can't have too many, and isn't cut behind them where they
+// are few for its length.
+#[inline]
+fn find_first(
+    dialect: &Dialect,
+    line: &[u8],
+    spans: &mut [Span],
+    wanted: usize,
+) -> Result<usize, CsvFault>
+    requires valid { is_valid dialect.now ≡ true }
+    requires short { length line.now < 2 ^ 31 }
+    requires room { 65536 ≤ length spans.old }
+    ensures { IsFilledFirst dialect.now line.now wanted spans.new result }
+{
+    if line.len() >= MOST_FIELDS {
+        return front_of_all(dialect, line, spans, wanted);
+    }
+    if wanted > line.len() / 64 {
+        return find_many(dialect, line, spans, wanted);
+    }
+    find_few(dialect, line, spans, wanted)
+}
+
+// Finds where the first fields of a short line lie: at its field bytes, where it is plain.
+#[inline]
+fn find_many(
+    dialect: &Dialect,
+    line: &[u8],
+    spans: &mut [Span],
+    wanted: usize,
+) -> Result<usize, CsvFault>
+    requires valid { is_valid dialect.now ≡ true }
+    requires small { length line.now < 65536 }
+    requires room { 65536 ≤ length spans.old }
+    ensures { IsFilledFirst dialect.now line.now wanted spans.new result }
+{
+    if let Some(count) = split_plain(line, dialect.field, dialect.quote, spans) {
+        if wanted < count {
+            return Ok(wanted);
+        }
+        return Ok(count);
+    }
+    find_few(dialect, line, spans, wanted)
+}
+
+// Finds where the first fields of a short line lie, one after the other.
+fn find_few(
+    dialect: &Dialect,
+    line: &[u8],
+    spans: &mut [Span],
+    wanted: usize,
+) -> Result<usize, CsvFault>
+    requires valid { is_valid dialect.now ≡ true }
+    requires small { length line.now < 65536 }
+    requires room { 65536 ≤ length spans.old }
+    ensures { IsFilledFirst dialect.now line.now wanted spans.new result }
+{
+    if !is_text(line) {
+        return Err(CsvFault::InvalidTextEncoding);
+    }
+    Ok(cut_first(dialect, line, spans, wanted))
+}
+
+// Finds where all fields of a line lie, for the first of them.
+#[inline(never)]
+fn front_of_all(
+    dialect: &Dialect,
+    line: &[u8],
+    spans: &mut [Span],
+    wanted: usize,
+) -> Result<usize, CsvFault>
+    requires valid { is_valid dialect.now ≡ true }
+    requires short { length line.now < 2 ^ 31 }
+    requires room { 65536 ≤ length spans.old }
+    ensures { IsFilledFirst dialect.now line.now wanted spans.new result }
+{
+    match find_spans(dialect, line, spans) {
+        Ok(count) => {
+            if wanted < count {
+                return Ok(wanted);
+            }
+            Ok(count)
+        }
+        Err(fault) => Err(fault),
+    }
+}
+
+// Writes the spans of the first fields of a line that can't have too many.
+fn cut_first(dialect: &Dialect, line: &[u8], spans: &mut [Span], wanted: usize) -> usize
+    requires valid { is_valid dialect.now ≡ true }
+    requires utf8 { IsUtf8 line.now }
+    requires small { length line.now < 65536 }
+    requires room { 65536 ≤ length spans.old }
+    ensures { AreWanted dialect.now line.now wanted result spans.new }
+{
+    let mut start = 0;
+    for count in 0..wanted {
+        let end = field_end(dialect, line, start);
+        spans[count] = Span {
+            start: start as u32,
+            end: end as u32,
+        };
+        if end == line.len() {
+            return count + 1;
+        }
+        start = end + 1;
+    }
+    wanted
+}
+
 impl<'r> Fields<'r> {
     /// The fields of a line in a valid dialect. The line is a record without its delimiter.
     #[inline]
@@ -162,6 +296,25 @@ impl<'r> Fields<'r> {
         ensures { IsRead dialect.now line.now result }
     {
         match spans.fill(dialect, line) {
+            Ok(count) => Ok(spans.lend(dialect, line, count)),
+            Err(fault) => Err(fault),
+        }
+    }
+
+    /// The first fields of a line in a valid dialect, as many as are wanted, or all where the line has fewer. The faults are those of the
+    /// whole line.
+    #[inline]
+    pub fn of_first(
+        dialect: &Dialect,
+        line: &'r [u8],
+        spans: &'r mut Spans,
+        wanted: usize,
+    ) -> Result<Fields<'r>, CsvFault>
+        requires valid { is_valid dialect.now ≡ true }
+        requires short { length line.now < 2 ^ 31 }
+        ensures { IsReadFirst dialect.now line.now wanted result }
+    {
+        match spans.fill_first(dialect, line, wanted) {
             Ok(count) => Ok(spans.lend(dialect, line, count)),
             Err(fault) => Err(fault),
         }

@@ -291,6 +291,10 @@ fn fields_are_told(rt: HostRuntime) -> Result<(), Fail> {
         }
         Err(_) => assert!(rt; false),
     }
+    match Fields::of_first(&DOUBLED, line, &mut spans, 2) {
+        Ok(fields) => assert_eq!(rt; (fields.count(), fields.plain(1)), (2, Some("cd"))),
+        Err(_) => assert!(rt; false),
+    }
     line_has_one_reading();
     Ok(())
 }
