@@ -1,10 +1,20 @@
 //! The query that a text spells, by the grammar of S3 Select, or the first fault of the text and its place.
 #![tactic(auto)]
 
+mod classes;
+mod expression;
+mod functions;
 mod literals;
+mod logic;
+mod nest;
+mod operators;
 mod path;
+mod predicates;
+mod primary;
 mod stop;
+mod sums;
 mod tokens;
+mod types;
 
 pub use sql_grammar::{
     Agg, Arm, CastTarget, CompareOp, DatePart, Expr, Item, Name, ParseError, PathStep, ProdOp, ProdPart,

@@ -40,7 +40,7 @@ fn path_step(alloc: Global, tokens: &mut Tokens<'_>) -> Result<PathStep, Stop>
 }
 
 /// Whether a token of this class is a name that isn't before `(`.
-fn is_path_name(class: Class) -> bool
+pub(crate) fn is_path_name(class: Class) -> bool
     ensures { result ≡ is_path_name class }
 {
     match class {

@@ -1,0 +1,13 @@
+-- What the loop over the parts has read.
+use Rattle.std.proofs.Common.{◌≡◌, length}
+use Rattle.sql_grammar.specs.Expressions.{room_of}
+use Rattle.sql_grammar.specs.Readers.{read_disjunction}
+use Rattle.select_sql.specs.Parsing.{read_inside}
+use Rattle.select_sql.proofs.ChainSteps.{disjunction_left}
+use Rattle.select_sql.proofs.logic.disjunction.Given as goal
+
+abbrev pub invariant-parts : goal.invariant-parts
+invariant-parts g l = read_disjunction (room_of l.fn.nest.depth) (read_inside l.fn.nest.depth) l.fn.primaries l.fn.tokens.symbols ≡ disjunction_left l.fn.nest.depth l.first l.rest l.primaries l.tokens.symbols
+
+abbrev pub decreases-parts : goal.decreases-parts
+decreases-parts g l = length l.tokens.symbols

@@ -1,0 +1,13 @@
+-- What the loop over the parts has read.
+use Rattle.std.proofs.Common.{◌≡◌, length}
+use Rattle.sql_grammar.specs.Expressions.{room_of}
+use Rattle.sql_grammar.specs.Readers.{read_prod}
+use Rattle.select_sql.specs.Parsing.{read_inside}
+use Rattle.select_sql.proofs.ChainSteps.{prod_left}
+use Rattle.select_sql.proofs.sums.prod.Given as goal
+
+abbrev pub invariant-parts : goal.invariant-parts
+invariant-parts g l = read_prod (room_of l.fn.nest.depth) (read_inside l.fn.nest.depth) l.fn.primaries l.fn.tokens.symbols ≡ prod_left l.fn.nest.depth l.first l.rest l.primaries l.tokens.symbols
+
+abbrev pub decreases-parts : goal.decreases-parts
+decreases-parts g l = length l.tokens.symbols
