@@ -1,5 +1,5 @@
 -- An expression between brackets is one in which one bracket less may be open.
-use Rattle.std.proofs.Common.{◌≡◌, ℕ, zero, suc, ◌-◌, List, refl}
+use Rattle.std.proofs.Common.{◌≡◌, ℕ, zero, suc, ◌-◌, List, refl, arith}
 use Rattle.sql_tokens.specs.Cutting.{Symbol, first_class}
 use Rattle.grammar_rules.specs.Rules.{fault}
 use Rattle.grammar_rules.specs.Counted.{plain}
@@ -22,7 +22,7 @@ module _ (depth n : ℕ) (ts : List Symbol) where
 pub inside_some : (depth n : ℕ) (ts : List Symbol) → (depth ≡ 0 → ⊥) → read_inside depth n ts ≡ read_expression (depth - 1) n ts
 unfolding read_inside
 inside_some zero n ts z = absurd (z refl)
-inside_some (suc depth) n ts z = refl
+inside_some (suc depth) n ts z = let e : suc depth - 1 ≡ depth = omega arith in rw e refl
 
 pub expression_is : (depth n : ℕ) (ts : List Symbol) → read_expression depth n ts ≡ read_disjunction (room_of depth) (read_inside depth) n ts
 unfolding read_expression read_inside read_too_deep

@@ -1,8 +1,16 @@
+pub mod AnswerSteps
 pub mod ChainSteps
 pub mod ClassSteps
 pub mod CountedSteps
+pub mod EndSteps
 pub mod InsideSteps
+pub mod ListSteps
+pub mod MemberSteps
 pub mod NodeSteps
 pub mod OpenSteps
 pub mod PathSteps
+pub mod PrimarySteps
+pub mod QuerySteps
+pub mod TailSteps
 pub mod TokenSteps
+pub mod WordSteps

@@ -8,6 +8,10 @@ use Rattle.sql_tokens.specs.Cutting.{Symbol, Remaining, first_class}
 use Rattle.sql_tokens.specs.Payloads.{first_of, word_of, quoted_of, text_of, first_number, undoubled}
 use Rattle.sql_decimal.specs.declared.number.Num.{Num}
 use Rattle.sql_grammar.specs.declared.tree.Name.{Name}
+use Rattle.sql_grammar.specs.declared.tree.Agg.{Agg}
+use Rattle.sql_grammar.specs.declared.tree.Agg.TheVariants as agg
+use Rattle.sql_grammar.specs.declared.tree.Step.{Step}
+use Rattle.sql_grammar.specs.QueryReaders.{read_counted, read_all_rest, read_element_rest}
 use Rattle.select_sql.specs.declared.stop.Stop.{Stop}
 use Rattle.select_sql.specs.declared.stop.Stop.TheVariants as stop
 use Rattle.grammar_rules.specs.Readers.{Outcome, found, failed, and_then, starts, chosen, closed_by, read_made, read_terminal, read_past, read_before, read_either, read_optional, read_fault}
@@ -251,3 +255,36 @@ only_one (c ∷ d ∷ cs) = None
 -- ESCAPE and its text, or nothing
 abbrev pub read_escape_told : List ℕ → List Symbol → Outcome Symbol Fault (Option ℕ)
 read_escape_told pattern = read_either (of k.Escape) (read_past (of k.Escape) (read_terminal (escape pattern))) (λ ts. found None ts)
+
+-- ---- aggregates
+
+-- the aggregate of a value
+abbrev pub agg_node : Class → Expr → Agg
+agg_node k.CountCalled a = agg.Count a
+agg_node k.SumCalled a = agg.Sum a
+agg_node k.MinCalled a = agg.Min a
+agg_node k.MaxCalled a = agg.Max a
+agg_node _ a = agg.Avg a
+
+-- an aggregate of an expression
+unfoldable pub read_aggregate_told : Class → Reader Agg
+read_aggregate_told c n ts = read_past (of c) (λ left. read_in_brackets true (read_given (agg_node c) (read_expression 63)) n left) ts
+
+-- COUNT and what is counted
+unfoldable pub read_count_told : Reader Agg
+read_count_told n ts = read_past (of k.CountCalled) (λ left. read_in_brackets true read_counted n left) ts
+
+-- ---- steps of the source
+
+-- `* ]` or `digits ]`
+abbrev pub read_bracket_step : Reader Step
+read_bracket_step n = read_either (of k.Star) (read_all_rest n) (read_element_rest n)
+
+-- IS, or a word that NOT may stand before, or NOT
+abbrev pub begins_word_tail : Class → Bool
+begins_word_tail k.Is = true
+begins_word_tail k.Not = true
+begins_word_tail k.Between = true
+begins_word_tail k.In = true
+begins_word_tail k.Like = true
+begins_word_tail _ = false

@@ -1,12 +1,13 @@
 //! Which tokens begin a part of an expression.
 ghost use Rattle.std.specs.Prelude.{◌≡◌};
 ghost use Rattle.sql_grammar.specs.Marks.{is_for, is_number, is_decimal, is_unknown_call, begins_expression};
-ghost use Rattle.sql_grammar.specs.Readers.{is_side, is_sum_op, is_prod_op, is_compare_op, begins_negatable, begins_tail};
-ghost use Rattle.select_sql.specs.Parsing.{is_function, opens_expression};
+ghost use Rattle.grammar_rules.specs.Readers.{starts};
+ghost use Rattle.sql_grammar.specs.Readers.{begins, is_side, is_sum_op, is_prod_op, is_compare_op, begins_negatable, begins_tail};
+ghost use Rattle.select_sql.specs.Parsing.{is_function, opens_expression, begins_word_tail};
 
 use crate::operators::{compare_op, prod_op, sum_op, trim_side};
 use crate::tokens::is_between;
-use sql_tokens::Class;
+use sql_tokens::{Class, Tokens};
 
 /// FOR.
 pub(crate) fn is_for(class: Class) -> bool
@@ -112,6 +113,14 @@ pub(crate) fn begins_expression(class: Class) -> bool
         || is_between(class, Class::CoalesceCalled, Class::ToTimestampCalled)
 }
 
+/// Whether an expression begins at the token in sight, or a fault of one.
+#[tactic(auto, using(crate::proofs::InsideSteps::deep_first))]
+pub(crate) fn at_expression(tokens: &Tokens<'_>) -> bool
+    ensures { result ≡ starts (begins begins_expression) tokens.now.symbols }
+{
+    begins_expression(tokens.class())
+}
+
 /// LEADING, TRAILING or BOTH.
 pub(crate) fn is_side(class: Class) -> bool
     ensures { result ≡ is_side class }
@@ -150,10 +159,20 @@ pub(crate) fn begins_negatable(class: Class) -> bool
     }
 }
 
+/// IS, or a word that NOT may stand before, or NOT.
+fn begins_word_tail(class: Class) -> bool
+    ensures { result ≡ begins_word_tail class }
+{
+    match class {
+        Class::Is | Class::Not | Class::Between | Class::In | Class::Like => true,
+        _ => false,
+    }
+}
+
 /// Whether a tail of a condition begins so.
 #[tactic(auto, using(crate::proofs::ClassSteps::tail_begins))]
 pub(crate) fn begins_tail(class: Class) -> bool
     ensures { result ≡ begins_tail class }
 {
-    class.is(Class::Is) || begins_negatable(class) || is_compare_op(class)
+    begins_word_tail(class) || is_compare_op(class)
 }

@@ -7,7 +7,7 @@ ghost use Rattle.sql_grammar.specs.Marks.{of, is_for};
 ghost use Rattle.sql_grammar.specs.Readers.{begins, read_listed, read_cast_rest, read_coalesce_rest, read_nullif_rest, read_substring_commas, read_substring_words, read_substring_rest, read_trim_from, read_trim_set, read_trim_plain, read_trim_rest, read_extract_rest, read_date_add_rest};
 ghost use Rattle.select_sql.specs.Parsing.{GivesCounted, Reads, read_inside, read_arguments, read_function, is_token, simple_node};
 
-use crate::classes::{begins_expression, is_for, is_side};
+use crate::classes::{at_expression, is_for, is_side};
 use crate::literals::counted;
 use crate::nest::{Nest, behind, inside};
 use crate::operators::{date_part, side, stamp_part};
@@ -162,6 +162,7 @@ pub(crate) fn substring_words<F: Fn(&mut Tokens<'_>, &mut u32) -> Result<Boxed<E
 }
 
 /// SUBSTRING's arguments.
+#[tactic(auto, unfolding(sql_grammar::specs::Readers::read_substring_rest))]
 pub(crate) fn substring_rest<F: Fn(&mut Tokens<'_>, &mut u32) -> Result<Boxed<Expr>, Stop>>(
     nest: &Nest<F>,
     tokens: &mut Tokens<'_>,
@@ -208,7 +209,7 @@ pub(crate) fn trim_set<F: Fn(&mut Tokens<'_>, &mut u32) -> Result<Boxed<Expr>, S
     requires reads { Reads (read_inside nest.now.depth) (F.post nest.now.expression) }
     ensures { GivesCounted (read_trim_set (room_of nest.now.depth) (read_inside nest.now.depth) side primaries.old tokens.old.symbols) result primaries.new tokens.new.symbols }
 {
-    if begins_expression(tokens.class()) {
+    if at_expression(tokens) {
         let set = inside(nest, tokens, primaries)?;
         return trim_from(nest, tokens, primaries, side, Some(set));
     }
@@ -241,7 +242,7 @@ pub(crate) fn trim_plain<F: Fn(&mut Tokens<'_>, &mut u32) -> Result<Boxed<Expr>,
 }
 
 /// TRIM's arguments.
-#[tactic(auto, unfolding(sql_grammar::specs::Readers::read_trim_rest))]
+#[tactic(auto, unfolding(sql_grammar::specs::Readers::read_trim_rest, sql_grammar::specs::Readers::read_trim_from))]
 pub(crate) fn trim_rest<F: Fn(&mut Tokens<'_>, &mut u32) -> Result<Boxed<Expr>, Stop>>(
     nest: &Nest<F>,
     tokens: &mut Tokens<'_>,
@@ -255,7 +256,7 @@ pub(crate) fn trim_rest<F: Fn(&mut Tokens<'_>, &mut u32) -> Result<Boxed<Expr>, 
         let side = side(tokens)?;
         return trim_set(nest, tokens, primaries, side);
     }
-    if begins_expression(tokens.class()) {
+    if at_expression(tokens) {
         return trim_plain(nest, tokens, primaries);
     }
     trim_from(nest, tokens, primaries, Side::Both, None)

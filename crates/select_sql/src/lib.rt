@@ -4,18 +4,24 @@
 mod classes;
 mod expression;
 mod functions;
+mod items;
 mod literals;
 mod logic;
 mod nest;
 mod operators;
+mod parse;
 mod path;
 mod predicates;
 mod primary;
+mod query;
+mod source;
 mod stop;
 mod sums;
 mod tokens;
+mod totals;
 mod types;
 
+pub use parse::parse;
 pub use sql_grammar::{
     Agg, Arm, CastTarget, CompareOp, DatePart, Expr, Item, Name, ParseError, PathStep, ProdOp, ProdPart,
     Query, Selection, SqlCode, SqlError, Step, SumOp, SumPart, Total, texts_have_one_parse,

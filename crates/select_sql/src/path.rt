@@ -12,10 +12,10 @@ use sqlite_items::Items;
 use std::alloc::Global;
 
 /// The greatest index of an element.
-const MAX_INDEX: u64 = 9_223_372_036_854_775_807;
+pub(crate) const MAX_INDEX: u64 = 9_223_372_036_854_775_807;
 
 /// Whether a step of a path begins here.
-fn is_step(class: Class) -> bool
+pub(crate) fn is_step(class: Class) -> bool
     ensures { result ≡ is_step class }
 {
     match class {

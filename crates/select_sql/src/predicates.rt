@@ -1,5 +1,5 @@
 //! Comparisons, BETWEEN, IN, LIKE and IS.
-ghost use Rattle.std.specs.Prelude.{◌≡◌, ℕ, chars};
+ghost use Rattle.std.specs.Prelude.{◌≡◌, ℕ, [], ◌∷◌, chars, MatchOption};
 ghost use Rattle.grammar_rules.specs.CountedReaders.{read_counted_past, read_list_of, read_item};
 ghost use Rattle.sql_tokens.specs.declared.class.Class.TheVariants as k;
 ghost use Rattle.grammar_rules.specs.Readers.{read_terminal};
@@ -69,7 +69,7 @@ pub(crate) fn between<F: Fn(&mut Tokens<'_>, &mut u32) -> Result<Boxed<Expr>, St
 }
 
 /// Why a token of this class can't begin one more member.
-fn over_member(class: Class, room: bool) -> Stop
+pub(crate) fn over_member(class: Class, room: bool) -> Stop
     ensures { IsOver (over_class room class) result }
 {
     if is_unknown_call(class) {
@@ -165,13 +165,21 @@ pub(crate) fn among<F: Fn(&mut Tokens<'_>, &mut u32) -> Result<Boxed<Expr>, Stop
     )?)
 }
 
+/// The first character and the text behind it.
+fn split_char(text: &str) -> Option<(char, &str)>
+    ensures { MatchOption result (chars text.now ≡ []) (λ p. chars text.now ≡ p.0 ∷ chars p.1.now) }
+{
+    let mut letters = text.chars();
+    let character = letters.next()?;
+    Some((character, letters.as_str()))
+}
+
 /// The one character of a text.
 fn one_char(text: &str) -> Option<char>
     ensures { result ≡ only_one (chars text.now) }
 {
-    let mut all = text.chars();
-    let first = all.next()?;
-    match all.next() {
+    let (first, behind) = split_char(text)?;
+    match split_char(behind) {
         Some(_) => None,
         None => Some(first),
     }

@@ -6,7 +6,7 @@ ghost use Rattle.sql_grammar.specs.Marks.{begins_expression};
 ghost use Rattle.grammar_rules.specs.CountedReaders.{read_maybe};
 ghost use Rattle.select_sql.specs.Parsing.{GivesCounted, Reads, read_inside, constant_node, is_constant, read_bracketed, read_case_told, read_simple};
 
-use crate::classes::{begins_expression, is_function, is_number, is_unknown_call};
+use crate::classes::{at_expression, is_function, is_number, is_unknown_call};
 use crate::functions::{function, maybe_behind};
 use crate::literals::{counted, counted_open, number, text};
 use crate::nest::{Nest, inside};
@@ -100,7 +100,7 @@ pub(crate) fn operand<F: Fn(&mut Tokens<'_>, &mut u32) -> Result<Boxed<Expr>, St
     requires reads { Reads (read_inside nest.now.depth) (F.post nest.now.expression) }
     ensures { GivesCounted (read_maybe (begins begins_expression) (read_inside nest.now.depth) primaries.old tokens.old.symbols) result primaries.new tokens.new.symbols }
 {
-    if !begins_expression(tokens.class()) {
+    if !at_expression(tokens) {
         return Ok(None);
     }
     let value = inside(nest, tokens, primaries)?;
@@ -209,7 +209,8 @@ pub(crate) fn primary<F: Fn(&mut Tokens<'_>, &mut u32) -> Result<Boxed<Expr>, St
     let class = tokens.class();
     if is_path_name(class) {
         let found = path(nest.alloc, tokens, primaries)?;
-        return Ok(Boxed::new(nest.alloc, found)?);
+        let boxed = Boxed::new(nest.alloc, found)?;
+        return Ok(boxed);
     }
     if is_function(class) {
         return function(nest, tokens, primaries, class);

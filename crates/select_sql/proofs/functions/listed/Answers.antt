@@ -19,7 +19,7 @@ returns-in_err-first g c =
 
 pub members-init : goal.members-init
 members-init g c =
-    rw (c.in_ok-push.ensures.ok, c.new-all.ensures) (listed_begin (of k.Comma) (read_inside c.args.nest.now.depth) (read_counted_past (of k.Comma) (read_inside c.args.nest.now.depth)) c.args.primaries.now c.args.tokens.now.symbols c.in_ok-first.first c.inside.new.primaries c.inside.new.tokens.symbols c.in_ok-first.ensures)
+    rw (c.in_ok-push.ensures.ok, c.into_inner.ensures, c.new-all.ensures) (listed_begin (of k.Comma) (read_inside c.args.nest.now.depth) (read_counted_past (of k.Comma) (read_inside c.args.nest.now.depth)) c.args.primaries.now c.args.tokens.now.symbols c.in_ok-first.first c.inside.new.primaries c.inside.new.tokens.symbols c.in_ok-first.ensures)
 
 pub returns-in_err-member : goal.returns-in_err-member
 returns-in_err-member g c =
@@ -31,7 +31,7 @@ members-smaller g c = (member_less c.args.nest.now.depth) c.members.primaries c.
 
 pub members-preserved : goal.members-preserved
 members-preserved g c =
-    rw c.in_ok-push-2.ensures.ok
+    rw (c.into_inner-in-members.ensures, c.in_ok-push-2.ensures.ok)
     (c.members.invariant ∙ listed_on (of k.Comma) (read_counted_past (of k.Comma) (read_inside c.args.nest.now.depth)) (member_less c.args.nest.now.depth) c.members.all c.members.primaries c.members.tokens.symbols c.in_ok-member.member c.behind.new.primaries c.behind.new.tokens.symbols (sym c.sees.ensures ∙ c.members-test.true) c.in_ok-member.ensures)
 
 pub returns : goal.returns

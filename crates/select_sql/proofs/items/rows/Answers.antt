@@ -32,7 +32,7 @@ members-smaller c = row_less (c.members.left, c.members.primaries) c.members.tok
 
 pub members-preserved : goal.members-preserved
 members-preserved c =
-    rw c.in_ok-push-2.ensures.ok
+    rw (c.in_ok-push-2.ensures.ok)
     (c.members.invariant ∙ limited_on (of k.Comma) (read_counted_past (of k.Comma) (read_item (λ s. over_class true (class s)) read_row)) row_less c.members.all c.members.left c.members.primaries c.members.tokens.symbols c.in_ok-next.next c.row_behind.new.left c.row_behind.new.primaries c.row_behind.new.tokens.symbols (sym c.sees.ensures ∙ c.members-test.true) c.in_ok-next.ensures)
 
 pub returns : goal.returns

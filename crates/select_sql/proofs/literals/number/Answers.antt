@@ -11,5 +11,5 @@ returns-then-primaries-eq0 c = λ m. number_over c.args.primaries.now c.args.tok
 
 pub returns : goal.returns
 returns c =
-    rw c.number_at.ensures
+    rw c.number_at-found.ensures
     (number_taken c.args.primaries.now c.args.tokens.now.symbols (rw (← c.class.ensures) (sym c.is_number.ensures ∙ c.if-not-is_number.false)) c.if-primaries-eq0.false c.skip.new.self.symbols (ap (λ r. r.symbols) c.skip.ensures))

@@ -27,7 +27,7 @@ parts-smaller g c = disjunction_shorter c.args.nest.now.depth c.parts.primaries 
 
 pub parts-preserved : goal.parts-preserved
 parts-preserved g c =
-    rw c.in_ok-push.ensures.ok
+    rw (c.in_ok-push.ensures.ok, c.into_inner.ensures)
     (c.parts.invariant ∙ disjunction_on c.args.nest.now.depth c.in_ok-first.first c.parts.rest c.parts.primaries c.parts.tokens.symbols c.in_ok-part.part c.or_part.new.primaries c.or_part.new.tokens.symbols (sym c.sees.ensures ∙ c.parts-test.true) c.in_ok-part.ensures)
 
 pub returns : goal.returns

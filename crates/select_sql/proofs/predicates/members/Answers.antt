@@ -19,7 +19,7 @@ returns-in_err-first g c =
 
 pub members-init : goal.members-init
 members-init g c =
-    rw (c.in_ok-push.ensures.ok, c.new-all.ensures) (limited_begin (of k.Comma) (read_item (λ s. over_class (room_of c.args.nest.now.depth).deeper (class s)) (read_inside c.args.nest.now.depth)) (read_counted_past (of k.Comma) (read_item (λ s. over_class (room_of c.args.nest.now.depth).deeper (class s)) (read_inside c.args.nest.now.depth))) 1000 c.args.primaries.now c.args.tokens.now.symbols c.in_ok-first.first c.member.new.left c.member.new.primaries c.member.new.tokens.symbols c.in_ok-first.ensures)
+    rw (c.in_ok-push.ensures.ok, c.into_inner.ensures, c.new-all.ensures) (limited_begin (of k.Comma) (read_item (λ s. over_class (room_of c.args.nest.now.depth).deeper (class s)) (read_inside c.args.nest.now.depth)) (read_counted_past (of k.Comma) (read_item (λ s. over_class (room_of c.args.nest.now.depth).deeper (class s)) (read_inside c.args.nest.now.depth))) 1000 c.args.primaries.now c.args.tokens.now.symbols c.in_ok-first.first c.member.new.left c.member.new.primaries c.member.new.tokens.symbols c.in_ok-first.ensures)
 
 pub returns-in_err-next : goal.returns-in_err-next
 returns-in_err-next g c =
@@ -31,7 +31,7 @@ members-smaller g c = (limited_less c.args.nest.now.depth (room_of c.args.nest.n
 
 pub members-preserved : goal.members-preserved
 members-preserved g c =
-    rw c.in_ok-push-2.ensures.ok
+    rw (c.into_inner-in-members.ensures, c.in_ok-push-2.ensures.ok)
     (c.members.invariant ∙ limited_on (of k.Comma) (read_counted_past (of k.Comma) (read_item (λ s. over_class (room_of c.args.nest.now.depth).deeper (class s)) (read_inside c.args.nest.now.depth))) (limited_less c.args.nest.now.depth (room_of c.args.nest.now.depth).deeper) c.members.all c.members.left c.members.primaries c.members.tokens.symbols c.in_ok-next.next c.next_member.new.left c.next_member.new.primaries c.next_member.new.tokens.symbols (sym c.sees.ensures ∙ c.members-test.true) c.in_ok-next.ensures)
 
 pub returns : goal.returns

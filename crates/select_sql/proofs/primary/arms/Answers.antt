@@ -33,7 +33,7 @@ arms-smaller g c = (arm_less c.args.nest.now.depth) c.arms.primaries c.arms.toke
 
 pub arms-preserved : goal.arms-preserved
 arms-preserved g c =
-    rw c.in_ok-push-2.ensures.ok
+    rw (c.in_ok-push-2.ensures.ok)
     (c.arms.invariant ∙ listed_on (of k.When) (read_arm (room_of c.args.nest.now.depth) (read_inside c.args.nest.now.depth)) (arm_less c.args.nest.now.depth) c.arms.all c.arms.primaries c.arms.tokens.symbols c.in_ok-next.next c.arm-in-arms.new.primaries c.arm-in-arms.new.tokens.symbols (sym c.sees.ensures ∙ c.arms-test.true) c.in_ok-next.ensures)
 
 pub returns : goal.returns

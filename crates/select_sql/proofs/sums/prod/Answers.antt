@@ -29,7 +29,7 @@ parts-smaller g c = prod_shorter c.args.nest.now.depth c.parts.primaries c.parts
 
 pub parts-preserved : goal.parts-preserved
 parts-preserved g c =
-    rw c.in_ok-push.ensures.ok
+    rw (c.in_ok-push.ensures.ok)
     (c.parts.invariant ∙ prod_on c.args.nest.now.depth c.in_ok-first.first c.parts.rest c.parts.primaries c.parts.tokens.symbols c.in_ok-part.part c.prod_part.new.primaries c.prod_part.new.tokens.symbols (sym (first_begins is_prod_op refl c.parts.tokens.symbols) ∙ rw (← c.class.ensures) (sym c.is_prod_op.ensures ∙ c.parts-test.true)) c.in_ok-part.ensures)
 
 pub returns : goal.returns
