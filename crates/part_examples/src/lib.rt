@@ -9,6 +9,8 @@ mod grammars;
 #[cfg(test)]
 mod masks;
 #[cfg(test)]
+mod queries;
+#[cfg(test)]
 mod texts;
 #[cfg(test)]
 mod thrift;

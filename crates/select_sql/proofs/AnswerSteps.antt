@@ -1,12 +1,15 @@
 -- What is left of a text tells its fault and the place of the fault.
-use Rattle.std.proofs.Common.{◌≡◌, ◌≢◌, ℕ, ◌-◌, Bool, true, false, List, [], ◌∷◌, ◌++◌, length, drop, Option, Some, None, refl, sym, ap, ◌∙◌, subst, if◌then◌else◌}
+use Rattle.std.proofs.Common.{◌≡◌, ◌≢◌, ℕ, ◌-◌, ◌<◌, ◌≤◌, Result, Err, Bool, true, false, List, [], ◌∷◌, ◌++◌, length, drop, Option, Some, None, refl, sym, ap, ◌∙◌, subst, if◌then◌else◌}
 use Rattle.sql_tokens.specs.declared.class.Class.{Class}
 use Rattle.sql_tokens.specs.declared.class.Class.TheVariants as k
 use Rattle.sql_tokens.specs.Classes.{same_class}
-use Rattle.sql_tokens.specs.Cutting.{Symbol, symbols_of, first_class, place_or}
+use Rattle.sql_tokens.specs.Cutting.{Symbol, symbols_of, first_class, place_or, lexer_fault}
 use Rattle.sql_grammar.specs.declared.error.SqlCode.{SqlCode}
 use Rattle.sql_grammar.specs.declared.error.SqlCode.TheVariants as code
 use Rattle.sql_grammar.specs.declared.error.SqlError.{SqlError}
+use Rattle.sql_grammar.specs.declared.error.ParseError.{ParseError}
+use Rattle.sql_grammar.specs.declared.error.ParseError.TheVariants as error
+use Rattle.sql_grammar.specs.declared.tree.Query.{Query}
 use Rattle.grammar_rules.specs.Readers.{Outcome, found, failed, read_made, answer_named}
 use Rattle.grammar_rules.specs.Places.{value, refusal, named_first, AnswersNamed}
 use Rattle.grammar_rules.proofs.Right.{Right}
@@ -14,23 +17,23 @@ use Rattle.grammar_rules.proofs.Answering.{left_over}
 use Rattle.sql_grammar.specs.Marks.{Fault, aggregate_mixed, class, is_aggregate}
 use Rattle.sql_grammar.specs.Queries.{Written, query}
 use Rattle.sql_grammar.specs.QueryReaders.{is_agg, read_whole_query, read_query}
-use Rattle.sql_grammar.specs.Faults.{misplaced, code_of, place_of, IsCut, IsWritten, FaultOf, is_refused}
+use Rattle.sql_grammar.specs.Faults.{names_source, query_of, misplaced, code_of, longest, place_of, IsCut, IsWritten, Spells, FaultOf, is_too_long, is_unfit, is_refused, is_other_name}
 use Rattle.sql_grammar.proofs.QueryReads.{reads-query, said}
 use Rattle.select_sql.specs.declared.stop.Stop.{Stop}
 use Rattle.select_sql.specs.declared.stop.Stop.TheVariants as stop
 use Rattle.select_sql.specs.Parsing.{fault_of}
-use Rattle.select_sql.specs.Written.{NoneIsEnd, refused_code, stop_code}
+use Rattle.select_sql.specs.Written.{at_end, NoneIsEnd, refused_code, stop_code, error_by, error_of}
 use Rattle.select_sql.proofs.ClassSteps.{agreeing}
 use Rattle.select_sql.proofs.EndSteps.{end_in_sight}
 
-pub place_anywhere : (n m : ℕ) (ts : List Symbol) → same_class k.NoToken (first_class ts) ≡ false → place_or n ts ≡ place_or m ts
+pub place_anywhere : (n m : ℕ) (ts : List Symbol) → at_end ts ≡ false → place_or n ts ≡ place_or m ts
 unfolding same_class
 place_anywhere n m [] h = let p : true ≡ false = h in cc
 place_anywhere n m (s ∷ ts) h = refl
 
 -- ---- codes
 
-named : Option Fault → List Symbol → Option Fault
+pub named : Option Fault → List Symbol → Option Fault
 named None left = named_first misplaced left
 named (Some f) left = Some f
 
@@ -105,16 +108,60 @@ module _ (text : List ℕ) (cut : IsCut text) where
     unfolding left_of
     found_end g = let r = rest_read (symbols_of text) (found w left) (made_query (found (w, n) left) h) in end_in_sight text r.before left r.is g
 
-    pub found_written : same_class k.NoToken (first_class left) ≡ true → IsWritten text w
+    pub found_written : at_end left ≡ true → IsWritten text w
     found_written g =
         let z : left ≡ [] = found_end g in
         record { cut = cut; spelled = said (symbols_of text) (found w []) (made_query (found (w, n) left) h ∙ ap (found w) z) }
 
-    pub trailing_fault : same_class k.NoToken (first_class left) ≡ false → FaultOf text (record { code = refused_code left; at = place_or (length text) left })
+    pub trailing_fault : at_end left ≡ false → FaultOf text (record { code = refused_code left; at = place_or (length text) left })
+    unfolding left_of same_class
     trailing_fault g = trailing left (made_query (found (w, n) left) h) g
       where
-        trailing : (rest : List Symbol) → read_query (symbols_of text) ≡ found w rest → same_class k.NoToken (first_class rest) ≡ false → FaultOf text (record { code = refused_code rest; at = place_or (length text) rest })
-        unfolding left_of same_class
+        trailing : (rest : List Symbol) → read_query (symbols_of text) ≡ found w rest → at_end rest ≡ false → FaultOf text (record { code = refused_code rest; at = place_or (length text) rest })
         trailing [] q g = let p : true ≡ false = g in cc
         trailing (t ∷ rest) q g =
             rw (← named_code (t ∷ rest)) (is_refused (misplaced t) (length (symbols_of text) - length (t ∷ rest)) cut (said (symbols_of text) (found w (t ∷ rest)) q) (ap (λ n. record { code = code_of (misplaced t); at = n }) (sym (place_left text (t ∷ rest) (rest_read (symbols_of text) (found w (t ∷ rest)) q)))))
+
+-- ---- errors
+
+-- what is refused so is this fault
+pub refusal_is : (r : ParseError) (fault made : SqlError) → r ≡ error.Refused made → ◌≡◌ {A = Result Query ParseError} (Err r) (Err (error.Refused fault)) → fault ≡ made
+refusal_is r fault made h q = let p : ◌≡◌ {A = Result Query ParseError} (Err (error.Refused made)) (Err (error.Refused fault)) = ap Err (sym h) ∙ q in cc
+
+error_named : (text : List ℕ) (s : Stop) (left : List Symbol) (fault : SqlError) → s ≢ stop.Memory → error_of text s left ≡ error.Refused fault → fault ≡ record { code = code_of (named (fault_of s) left); at = place_or (length text) left }
+error_named text s left fault m h =
+    let p : error_by text (Some (code_of (named (fault_of s) left))) left ≡ error.Refused fault = ap (λ o. error_by text o left) (sym (stop_named s left m)) ∙ h in cc
+
+memory_refused : (text : List ℕ) (left : List Symbol) (fault : SqlError) → error_of text stop.Memory left ≡ error.Refused fault → ⊥
+memory_refused text left fault h = let p : error.OutOfMemory ≡ error.Refused fault = h in cc
+
+-- a stop that is told as a fault isn't want of memory
+no_memory : (text : List ℕ) (s : Stop) (left : List Symbol) (fault : SqlError) → error_of text s left ≡ error.Refused fault → s ≢ stop.Memory
+no_memory text s left fault h e = memory_refused text left fault (ap (λ r. error_of text r left) (sym e) ∙ h)
+
+pub stopped_fault : (text : List ℕ) → IsCut text → (s : Stop) (left : List Symbol) (r : ParseError) (fault : SqlError) → (s ≢ stop.Memory → read_whole_query 4096 (symbols_of text) ≡ failed (fault_of s) left) → r ≡ error_of text s left → ◌≡◌ {A = Result Query ParseError} (Err r) (Err (error.Refused fault)) → FaultOf text fault
+stopped_fault text cut s left r fault reads told q =
+    let p : r ≡ error.Refused fault = cc in
+    let h : error_of text s left ≡ error.Refused fault = sym told ∙ p in
+    let m = no_memory text s left fault h in
+    stop_fault text cut s left fault m (reads m) (error_named text s left fault m h)
+
+pub stopped_end : (text : List ℕ) → IsCut text → (s : Stop) (left : List Symbol) → (s ≢ stop.Memory → read_whole_query 4096 (symbols_of text) ≡ failed (fault_of s) left) → s ≢ stop.Memory → NoneIsEnd left
+stopped_end text cut s left reads m = stop_end text cut (fault_of s) left (reads m)
+
+pub spelled : (text : List ℕ) (w : Written) (q : Query) → IsWritten text w → names_source w ≡ true → q ≡ query_of w → Spells text q
+spelled text w q h own is = record { as_written = w; written = h; own = own; is = sym is }
+
+pub other_name : (text : List ℕ) (w : Written) → IsWritten text w → names_source w ≡ false → (r : ParseError) (at : ℕ) (fault : SqlError) → r ≡ error.Refused (record { code = code.Syntax; at = at }) → at ≡ place_of text 1 → ◌≡◌ {A = Result Query ParseError} (Err r) (Err (error.Refused fault)) → FaultOf text fault
+other_name text w h own r at fault told place q = is_other_name w h own (refusal_is r fault (record { code = code.Syntax; at = at }) told q ∙ ap (λ n. record { code = code.Syntax; at = n }) place)
+
+pub trailed : (text : List ℕ) → IsCut text → (w : Written) (n : ℕ) (left : List Symbol) → read_whole_query 4096 (symbols_of text) ≡ found (w, n) left → at_end left ≡ false → (r : ParseError) (c : SqlCode) (at : ℕ) (fault : SqlError) → r ≡ error.Refused (record { code = c; at = at }) → c ≡ refused_code left → at ≡ place_or (length text) left → ◌≡◌ {A = Result Query ParseError} (Err r) (Err (error.Refused fault)) → FaultOf text fault
+trailed text cut w n left h g r c at fault told is place q =
+    let e : fault ≡ record { code = refused_code left; at = place_or (length text) left } = refusal_is r fault (record { code = c; at = at }) told q ∙ (ap (λ d. record { code = d; at = at }) is ∙ ap (λ m. record { code = refused_code left; at = m }) place) in
+    rw e (trailing_fault text cut w n left h g)
+
+pub too_long : (text : List ℕ) → longest < length text → (r : ParseError) (fault : SqlError) → r ≡ error.Refused (record { code = code.TooLong; at = longest }) → ◌≡◌ {A = Result Query ParseError} (Err r) (Err (error.Refused fault)) → FaultOf text fault
+too_long text h r fault told q = is_too_long h (refusal_is r fault (record { code = code.TooLong; at = longest }) told q)
+
+pub unfit : (text : List ℕ) (at : ℕ) → length text ≤ longest → lexer_fault text ≡ Some at → (r : ParseError) (fault : SqlError) → r ≡ error.Refused (record { code = code.Lexer; at = at }) → ◌≡◌ {A = Result Query ParseError} (Err r) (Err (error.Refused fault)) → FaultOf text fault
+unfit text at short h r fault told q = is_unfit at short h (refusal_is r fault (record { code = code.Lexer; at = at }) told q)

@@ -1,20 +1,22 @@
--- Each token has a class, so that no token in sight is the end of the text.
-use Rattle.std.proofs.Common.{◌≡◌, ℕ, zero, suc, ◌+◌, ◌-◌, ◌==◌, ◌&&◌, nat_lt, not, Bool, true, false, List, [], ◌∷◌, ◌++◌, take, drop, length, Option, Some, None, refl, sym, ◌∙◌, subst, if◌then◌else◌}
-use Rattle.std.specs.List.{list_all}
+-- Each token has a class or is a word, so that nothing of the two in sight is the end of the text.
+use Rattle.std.proofs.Common.{◌≡◌, ℕ, zero, suc, ◌+◌, ◌-◌, ◌==◌, ◌&&◌, nat_lt, not, is_some, Bool, true, false, List, [], ◌∷◌, ◌++◌, take, drop, length, Option, Some, None, refl, sym, ◌∙◌, subst, if◌then◌else◌}
+use Rattle.std.specs.List.{prefix_len}
+use Rattle.std.specs.Char.{is_ascii_digit}
 use Rattle.sql_tokens.specs.declared.class.Class.{Class}
 use Rattle.sql_tokens.specs.declared.class.Class.TheVariants as k
 use Rattle.sql_tokens.specs.Classes.{same_class}
-use Rattle.sql_tokens.specs.Keywords.{Keyword, keywords, class_in, class_of_word}
-use Rattle.sql_tokens.specs.TokenForms.{Token, word, quoted_name, text_literal, whole_number, point_number, exponent_number, punctuation, unfit, class_of, length_of, is_blank, begins, name_by, text_by, parts_number, number_by, number_token, less_by, greater_by, single, single_token, punctuation_token, word_by, token_from}
-use Rattle.sql_tokens.specs.Cutting.{Symbol, cut_behind, cut, symbols_of, first_class}
+use Rattle.sql_tokens.specs.TokenForms.{Token, word, quoted_name, text_literal, whole_number, point_number, exponent_number, punctuation, unfit, class_of, length_of, is_blank, is_letter, is_word_byte, closing, begins, name_by, text_by, parts_number, number_by, number_token, less_by, greater_by, single, single_token, punctuation_token, word_by, token_from}
+use Rattle.sql_tokens.specs.Cutting.{Symbol, cut_behind, cut, symbols_of}
+use Rattle.sql_tokens.specs.Payloads.{word_of}
+use Rattle.select_sql.specs.Written.{at_end}
 
 -- the class is a token's
 record Told (c : Class) : Type 0 where
   some : same_class k.NoToken c ≡ false
 
--- the token's class is one
+-- the token has a class, or is a word
 record IsTold (t : Token) : Type 0 where
-  some : same_class k.NoToken (class_of t) ≡ false
+  some : (same_class k.NoToken (class_of t) && not (is_some (word_of t))) ≡ false
 
 if_class : (b : Bool) (x y : Class) → Told x → Told y → Told (if b then x else y)
 if_class true x y f g = f
@@ -25,40 +27,16 @@ if_token true x y f g = f
 if_token false x y f g = g
 
 of_class : (c : Class) → Told c → IsTold (punctuation c)
-of_class c f = record { some = f.some }
+of_class c f = record { some = rw f.some refl }
 
 -- ---- words
 
-and_first : (a b : Bool) → (a && b) ≡ true → a ≡ true
-and_first true b e = refl
-and_first false b e = cc
-
-and_second : (a b : Bool) → (a && b) ≡ true → b ≡ true
-and_second true b e = e
-and_second false b e = cc
-
-not_so : (b : Bool) → not b ≡ true → b ≡ false
-not_so true e = cc
-not_so false e = refl
-
-abbrev good : Keyword → Bool
-good w = not (same_class k.NoToken w.called) && not (same_class k.NoToken w.plain)
-
-among : (ws : List Keyword) → list_all good ws ≡ true → (called : Bool) (bytes : List ℕ) → Told (class_in ws called bytes)
-unfolding same_class
-among [] h true bytes = record { some = refl }
-among [] h false bytes = record { some = refl }
-among (w ∷ ws) h called bytes =
-    let here = and_first (good w) (list_all good ws) h in
-    if_class _ _ _
-    (if_class called w.called w.plain
-    (record { some = not_so (same_class k.NoToken w.called) (and_first (not (same_class k.NoToken w.called)) (not (same_class k.NoToken w.plain)) here) })
-    (record { some = not_so (same_class k.NoToken w.plain) (and_second (not (same_class k.NoToken w.called)) (not (same_class k.NoToken w.plain)) here) }))
-    (among ws (and_second (good w) (list_all good ws) h) called bytes)
+and_false : (b : Bool) → (b && false) ≡ false
+and_false true = refl
+and_false false = refl
 
 word_told : (called : Bool) (bytes : List ℕ) → IsTold (word called bytes)
-unfolding class_of_word same_class keywords
-word_told called bytes = record { some = (among keywords refl called bytes).some }
+word_told called bytes = record { some = and_false (same_class k.NoToken (class_of (word called bytes))) }
 
 -- ---- the others
 
@@ -126,10 +104,10 @@ if_one false c o f g = g
 single_told : (b : ℕ) → OneTold (single b)
 unfolding same_class
 single_told b =
-    if_one _ _ _ (told k.LeftParenthesis refl) (if_one _ _ _ (told k.RightParenthesis refl) (if_one _ _ _ (told k.Comma refl) (if_one _ _ _ (told k.Dot refl)
-    (if_one _ _ _ (told k.LeftBracket refl) (if_one _ _ _ (told k.RightBracket refl) (if_one _ _ _ (told k.Star refl) (if_one _ _ _ (told k.Plus refl)
-    (if_one _ _ _ (told k.Minus refl) (if_one _ _ _ (told k.Slash refl) (if_one _ _ _ (told k.Percent refl) (if_one _ _ _ (told k.Equal refl)
-    (if_one _ _ _ (told k.Semicolon refl) (record { token = λ bs. unfit_told bs })))))))))))))
+    if_one (b == 40) k.LeftParenthesis _ (told k.LeftParenthesis refl) (if_one (b == 41) k.RightParenthesis _ (told k.RightParenthesis refl) (if_one (b == 44) k.Comma _ (told k.Comma refl) (if_one (b == 46) k.Dot _ (told k.Dot refl)
+    (if_one (b == 91) k.LeftBracket _ (told k.LeftBracket refl) (if_one (b == 93) k.RightBracket _ (told k.RightBracket refl) (if_one (b == 42) k.Star _ (told k.Star refl) (if_one (b == 43) k.Plus _ (told k.Plus refl)
+    (if_one (b == 45) k.Minus _ (told k.Minus refl) (if_one (b == 47) k.Slash _ (told k.Slash refl) (if_one (b == 37) k.Percent _ (told k.Percent refl) (if_one (b == 61) k.Equal _ (told k.Equal refl)
+    (if_one (b == 59) k.Semicolon _ (told k.Semicolon refl) (record { token = λ bs. unfit_told bs })))))))))))))
 
 punctuation_told : (b : ℕ) (bs : List ℕ) → IsTold (punctuation_token b bs)
 unfolding punctuation_token same_class
@@ -140,7 +118,11 @@ punctuation_told b bs =
 token_told : (b : ℕ) (bs : List ℕ) → IsTold (token_from b bs)
 unfolding token_from
 token_told b bs =
-    if_token _ _ _ (word_told _ _) (if_token _ _ _ (number_told (b ∷ bs)) (if_token _ _ _ (number_told (b ∷ bs)) (if_token _ _ _ (name_told _ bs) (if_token _ _ _ (text_told _ bs) (punctuation_told b bs)))))
+    if_token (is_letter b) (word_by (prefix_len is_word_byte (b ∷ bs)) (b ∷ bs)) _ (word_told _ _)
+    (if_token (is_ascii_digit b) (number_token (b ∷ bs)) _ (number_told (b ∷ bs))
+    (if_token (b == 46 && begins is_ascii_digit bs) (number_token (b ∷ bs)) _ (number_told (b ∷ bs))
+    (if_token (b == 34) (name_by (closing 34 bs) bs) _ (name_told (closing 34 bs) bs)
+    (if_token (b == 39) (text_by (closing 39 bs) bs) (punctuation_token b bs) (text_told (closing 39 bs) bs) (punctuation_told b bs)))))
 
 -- ---- all tokens of a text
 
@@ -156,7 +138,8 @@ behind_told : (skip at : ℕ) (bs : List ℕ) → AllTold (cut_behind skip at bs
 behind_told skip at [] = none_left
 behind_told (suc skip) at (b ∷ bs) = behind_told skip (at + 1) bs
 behind_told zero at (b ∷ bs) =
-    if_list _ _ _ (behind_told 0 (at + 1) bs) (one_more _ _ (token_told b bs) (behind_told _ (at + 1) bs))
+    if_list (is_blank b) (cut_behind 0 (at + 1) bs) (record { at = at; token = token_from b bs } ∷ cut_behind (length_of (token_from b bs) - 1) (at + 1) bs)
+    (behind_told 0 (at + 1) bs) (one_more (record { at = at; token = token_from b bs }) (cut_behind (length_of (token_from b bs) - 1) (at + 1) bs) (token_told b bs) (behind_told (length_of (token_from b bs) - 1) (at + 1) bs))
 
 all_told : (text : List ℕ) → AllTold (symbols_of text)
 unfolding cut
@@ -166,10 +149,10 @@ rest_told : (pre left : List Symbol) → AllTold (pre ++ left) → AllTold left
 rest_told [] left f = f
 rest_told (s ∷ pre) left (one_more _ _ t f) = rest_told pre left f
 
-none_in_sight : (left : List Symbol) → AllTold left → same_class k.NoToken (first_class left) ≡ true → left ≡ []
+none_in_sight : (left : List Symbol) → AllTold left → at_end left ≡ true → left ≡ []
 none_in_sight [] f h = refl
-none_in_sight (s ∷ ss) (one_more _ _ t f) h = let p : true ≡ false = h ∙ t.some in cc
+none_in_sight (s ∷ ss) (one_more _ _ t f) h = let p : true ≡ false = sym h ∙ t.some in cc
 
 -- behind some tokens of a text stands the end where no token is in sight
-pub end_in_sight : (text : List ℕ) (pre left : List Symbol) → symbols_of text ≡ pre ++ left → same_class k.NoToken (first_class left) ≡ true → left ≡ []
+pub end_in_sight : (text : List ℕ) (pre left : List Symbol) → symbols_of text ≡ pre ++ left → at_end left ≡ true → left ≡ []
 end_in_sight text pre left e h = none_in_sight left (rest_told pre left (subst (λ z. AllTold z) e (all_told text))) h

@@ -14,3 +14,4 @@ pub mod QuerySteps
 pub mod TailSteps
 pub mod TokenSteps
 pub mod WordSteps
+pub mod SelectSteps

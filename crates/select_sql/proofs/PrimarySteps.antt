@@ -15,6 +15,12 @@ use Rattle.sql_grammar.specs.Readers.{Reader, read_enclosed, read_path, read_cal
 use Rattle.select_sql.specs.Parsing.{is_function, read_arguments, read_open, read_counted_open, read_in_brackets, read_function, read_bracketed, read_case_told, read_simple}
 use Rattle.select_sql.proofs.CountedSteps.{constant_is}
 
+pub not_true : false ≡ true → ⊥
+not_true h = cc
+
+pub not_false : true ≡ false → ⊥
+not_false h = cc
+
 -- a value that isn't looked at may be dropped
 pub and_dropped : {A B : Type 0} (o : Outcome Symbol Fault A) (next : List Symbol → Outcome Symbol Fault B) → and_then o (λ a left. next left) ≡ and_then (read_made (λ a. tt) o) (λ u left. next left)
 and_dropped (found a left) next = refl
@@ -59,7 +65,7 @@ by_path k.Minute h = refl
 by_path k.Second h = refl
 by_path k.TimezoneHour h = refl
 by_path k.TimezoneMinute h = refl
-by_path _ h = cc
+by_path _ h = absurd (not_true h)
 
 by_unknown : (c : Class) → is_unknown_call c ≡ true → form_of c ≡ Some unknown_call
 by_unknown k.NameCalled h = refl
@@ -79,7 +85,7 @@ by_unknown k.MinuteCalled h = refl
 by_unknown k.SecondCalled h = refl
 by_unknown k.TimezoneHourCalled h = refl
 by_unknown k.TimezoneMinuteCalled h = refl
-by_unknown _ h = cc
+by_unknown _ h = absurd (not_true h)
 
 module _ (room : Room) (inner : Reader Expr) (n : ℕ) where
   pub primary_path : (ts : List Symbol) → is_path_name (first_class ts) ≡ true → read_primary room inner n ts ≡ read_path n ts
@@ -120,7 +126,7 @@ module _ (room : Room) (inner : Reader Expr) (n : ℕ) where
   by_function k.ExtractCalled s ts h q = rw q (call_is room inner k.ExtractCalled (read_arguments room inner k.ExtractCalled) n (s ∷ ts))
   by_function k.DateAddCalled s ts h q = rw q (call_is room inner k.DateAddCalled (read_arguments room inner k.DateAddCalled) n (s ∷ ts))
   by_function k.ToTimestampCalled s ts h q = rw q (call_is room inner k.ToTimestampCalled (read_arguments room inner k.ToTimestampCalled) n (s ∷ ts))
-  by_function _ s ts h q = cc
+  by_function _ s ts h q = absurd (not_true h)
 
   pub primary_function : (ts : List Symbol) → is_function (first_class ts) ≡ true → read_primary room inner n ts ≡ read_function room.here (first_class ts) (read_arguments room inner (first_class ts)) n ts
   primary_function [] h = let p : false ≡ true = h in cc
@@ -128,54 +134,54 @@ module _ (room : Room) (inner : Reader Expr) (n : ℕ) where
 
   by_simple : (c : Class) (s : Symbol) (ts : List Symbol) → class s ≡ c → is_path_name c ≡ false → is_function c ≡ false → is_unknown_call c ≡ false → same_class k.ExponentNumber c ≡ false → same_class k.LeftParenthesis c ≡ false → same_class k.Case c ≡ false → read_primary room inner n (s ∷ ts) ≡ read_simple n (s ∷ ts)
   unfolding read_primary read_primary_of read_simple same_class
-  by_simple k.Name s ts q h1 h2 h3 h4 h5 h6 = cc
-  by_simple k.QuotedName s ts q h1 h2 h3 h4 h5 h6 = cc
-  by_simple k.S3Object s ts q h1 h2 h3 h4 h5 h6 = cc
-  by_simple k.For s ts q h1 h2 h3 h4 h5 h6 = cc
-  by_simple k.BoolType s ts q h1 h2 h3 h4 h5 h6 = cc
-  by_simple k.IntType s ts q h1 h2 h3 h4 h5 h6 = cc
-  by_simple k.StringType s ts q h1 h2 h3 h4 h5 h6 = cc
-  by_simple k.TimestampType s ts q h1 h2 h3 h4 h5 h6 = cc
-  by_simple k.DecimalType s ts q h1 h2 h3 h4 h5 h6 = cc
-  by_simple k.Year s ts q h1 h2 h3 h4 h5 h6 = cc
-  by_simple k.Month s ts q h1 h2 h3 h4 h5 h6 = cc
-  by_simple k.Day s ts q h1 h2 h3 h4 h5 h6 = cc
-  by_simple k.Hour s ts q h1 h2 h3 h4 h5 h6 = cc
-  by_simple k.Minute s ts q h1 h2 h3 h4 h5 h6 = cc
-  by_simple k.Second s ts q h1 h2 h3 h4 h5 h6 = cc
-  by_simple k.TimezoneHour s ts q h1 h2 h3 h4 h5 h6 = cc
-  by_simple k.TimezoneMinute s ts q h1 h2 h3 h4 h5 h6 = cc
-  by_simple k.Cast s ts q h1 h2 h3 h4 h5 h6 = cc
-  by_simple k.CoalesceCalled s ts q h1 h2 h3 h4 h5 h6 = cc
-  by_simple k.NullifCalled s ts q h1 h2 h3 h4 h5 h6 = cc
-  by_simple k.CharLengthCalled s ts q h1 h2 h3 h4 h5 h6 = cc
-  by_simple k.LowerCalled s ts q h1 h2 h3 h4 h5 h6 = cc
-  by_simple k.UpperCalled s ts q h1 h2 h3 h4 h5 h6 = cc
-  by_simple k.SubstringCalled s ts q h1 h2 h3 h4 h5 h6 = cc
-  by_simple k.TrimCalled s ts q h1 h2 h3 h4 h5 h6 = cc
-  by_simple k.ExtractCalled s ts q h1 h2 h3 h4 h5 h6 = cc
-  by_simple k.DateAddCalled s ts q h1 h2 h3 h4 h5 h6 = cc
-  by_simple k.ToTimestampCalled s ts q h1 h2 h3 h4 h5 h6 = cc
-  by_simple k.NameCalled s ts q h1 h2 h3 h4 h5 h6 = cc
-  by_simple k.QuotedNameCalled s ts q h1 h2 h3 h4 h5 h6 = cc
-  by_simple k.S3ObjectCalled s ts q h1 h2 h3 h4 h5 h6 = cc
-  by_simple k.ForCalled s ts q h1 h2 h3 h4 h5 h6 = cc
-  by_simple k.BoolTypeCalled s ts q h1 h2 h3 h4 h5 h6 = cc
-  by_simple k.IntTypeCalled s ts q h1 h2 h3 h4 h5 h6 = cc
-  by_simple k.StringTypeCalled s ts q h1 h2 h3 h4 h5 h6 = cc
-  by_simple k.TimestampTypeCalled s ts q h1 h2 h3 h4 h5 h6 = cc
-  by_simple k.DecimalTypeCalled s ts q h1 h2 h3 h4 h5 h6 = cc
-  by_simple k.YearCalled s ts q h1 h2 h3 h4 h5 h6 = cc
-  by_simple k.MonthCalled s ts q h1 h2 h3 h4 h5 h6 = cc
-  by_simple k.DayCalled s ts q h1 h2 h3 h4 h5 h6 = cc
-  by_simple k.HourCalled s ts q h1 h2 h3 h4 h5 h6 = cc
-  by_simple k.MinuteCalled s ts q h1 h2 h3 h4 h5 h6 = cc
-  by_simple k.SecondCalled s ts q h1 h2 h3 h4 h5 h6 = cc
-  by_simple k.TimezoneHourCalled s ts q h1 h2 h3 h4 h5 h6 = cc
-  by_simple k.TimezoneMinuteCalled s ts q h1 h2 h3 h4 h5 h6 = cc
-  by_simple k.ExponentNumber s ts q h1 h2 h3 h4 h5 h6 = cc
-  by_simple k.LeftParenthesis s ts q h1 h2 h3 h4 h5 h6 = cc
-  by_simple k.Case s ts q h1 h2 h3 h4 h5 h6 = cc
+  by_simple k.Name s ts q h1 h2 h3 h4 h5 h6 = absurd (not_false h1)
+  by_simple k.QuotedName s ts q h1 h2 h3 h4 h5 h6 = absurd (not_false h1)
+  by_simple k.S3Object s ts q h1 h2 h3 h4 h5 h6 = absurd (not_false h1)
+  by_simple k.For s ts q h1 h2 h3 h4 h5 h6 = absurd (not_false h1)
+  by_simple k.BoolType s ts q h1 h2 h3 h4 h5 h6 = absurd (not_false h1)
+  by_simple k.IntType s ts q h1 h2 h3 h4 h5 h6 = absurd (not_false h1)
+  by_simple k.StringType s ts q h1 h2 h3 h4 h5 h6 = absurd (not_false h1)
+  by_simple k.TimestampType s ts q h1 h2 h3 h4 h5 h6 = absurd (not_false h1)
+  by_simple k.DecimalType s ts q h1 h2 h3 h4 h5 h6 = absurd (not_false h1)
+  by_simple k.Year s ts q h1 h2 h3 h4 h5 h6 = absurd (not_false h1)
+  by_simple k.Month s ts q h1 h2 h3 h4 h5 h6 = absurd (not_false h1)
+  by_simple k.Day s ts q h1 h2 h3 h4 h5 h6 = absurd (not_false h1)
+  by_simple k.Hour s ts q h1 h2 h3 h4 h5 h6 = absurd (not_false h1)
+  by_simple k.Minute s ts q h1 h2 h3 h4 h5 h6 = absurd (not_false h1)
+  by_simple k.Second s ts q h1 h2 h3 h4 h5 h6 = absurd (not_false h1)
+  by_simple k.TimezoneHour s ts q h1 h2 h3 h4 h5 h6 = absurd (not_false h1)
+  by_simple k.TimezoneMinute s ts q h1 h2 h3 h4 h5 h6 = absurd (not_false h1)
+  by_simple k.Cast s ts q h1 h2 h3 h4 h5 h6 = absurd (not_false h2)
+  by_simple k.CoalesceCalled s ts q h1 h2 h3 h4 h5 h6 = absurd (not_false h2)
+  by_simple k.NullifCalled s ts q h1 h2 h3 h4 h5 h6 = absurd (not_false h2)
+  by_simple k.CharLengthCalled s ts q h1 h2 h3 h4 h5 h6 = absurd (not_false h2)
+  by_simple k.LowerCalled s ts q h1 h2 h3 h4 h5 h6 = absurd (not_false h2)
+  by_simple k.UpperCalled s ts q h1 h2 h3 h4 h5 h6 = absurd (not_false h2)
+  by_simple k.SubstringCalled s ts q h1 h2 h3 h4 h5 h6 = absurd (not_false h2)
+  by_simple k.TrimCalled s ts q h1 h2 h3 h4 h5 h6 = absurd (not_false h2)
+  by_simple k.ExtractCalled s ts q h1 h2 h3 h4 h5 h6 = absurd (not_false h2)
+  by_simple k.DateAddCalled s ts q h1 h2 h3 h4 h5 h6 = absurd (not_false h2)
+  by_simple k.ToTimestampCalled s ts q h1 h2 h3 h4 h5 h6 = absurd (not_false h2)
+  by_simple k.NameCalled s ts q h1 h2 h3 h4 h5 h6 = absurd (not_false h3)
+  by_simple k.QuotedNameCalled s ts q h1 h2 h3 h4 h5 h6 = absurd (not_false h3)
+  by_simple k.S3ObjectCalled s ts q h1 h2 h3 h4 h5 h6 = absurd (not_false h3)
+  by_simple k.ForCalled s ts q h1 h2 h3 h4 h5 h6 = absurd (not_false h3)
+  by_simple k.BoolTypeCalled s ts q h1 h2 h3 h4 h5 h6 = absurd (not_false h3)
+  by_simple k.IntTypeCalled s ts q h1 h2 h3 h4 h5 h6 = absurd (not_false h3)
+  by_simple k.StringTypeCalled s ts q h1 h2 h3 h4 h5 h6 = absurd (not_false h3)
+  by_simple k.TimestampTypeCalled s ts q h1 h2 h3 h4 h5 h6 = absurd (not_false h3)
+  by_simple k.DecimalTypeCalled s ts q h1 h2 h3 h4 h5 h6 = absurd (not_false h3)
+  by_simple k.YearCalled s ts q h1 h2 h3 h4 h5 h6 = absurd (not_false h3)
+  by_simple k.MonthCalled s ts q h1 h2 h3 h4 h5 h6 = absurd (not_false h3)
+  by_simple k.DayCalled s ts q h1 h2 h3 h4 h5 h6 = absurd (not_false h3)
+  by_simple k.HourCalled s ts q h1 h2 h3 h4 h5 h6 = absurd (not_false h3)
+  by_simple k.MinuteCalled s ts q h1 h2 h3 h4 h5 h6 = absurd (not_false h3)
+  by_simple k.SecondCalled s ts q h1 h2 h3 h4 h5 h6 = absurd (not_false h3)
+  by_simple k.TimezoneHourCalled s ts q h1 h2 h3 h4 h5 h6 = absurd (not_false h3)
+  by_simple k.TimezoneMinuteCalled s ts q h1 h2 h3 h4 h5 h6 = absurd (not_false h3)
+  by_simple k.ExponentNumber s ts q h1 h2 h3 h4 h5 h6 = absurd (not_false h4)
+  by_simple k.LeftParenthesis s ts q h1 h2 h3 h4 h5 h6 = absurd (not_false h5)
+  by_simple k.Case s ts q h1 h2 h3 h4 h5 h6 = absurd (not_false h6)
   by_simple k.True s ts q h1 h2 h3 h4 h5 h6 = rw q (constant_is k.True (e.Bool true) n (s ∷ ts))
   by_simple k.False s ts q h1 h2 h3 h4 h5 h6 = rw q (constant_is k.False (e.Bool false) n (s ∷ ts))
   by_simple k.Null s ts q h1 h2 h3 h4 h5 h6 = rw q (constant_is k.Null e.Null n (s ∷ ts))

@@ -31,7 +31,7 @@ use Rattle.sql_grammar.proofs.ExpressionReads.{seen_over}
 use Rattle.sql_grammar.proofs.ItemReads.{later_first, reads-row, reads-later_total}
 use Rattle.sql_grammar.proofs.SourceReads.{seen_over_step, reads-step}
 use Rattle.select_sql.specs.Parsing.{agg_node, read_aggregate_told, read_count_told, read_in_brackets}
-use Rattle.select_sql.proofs.PrimarySteps.{enclosed_is}
+use Rattle.select_sql.proofs.PrimarySteps.{not_true, not_false, enclosed_is}
 use Rattle.select_sql.proofs.ListSteps.{list_left}
 use Rattle.select_sql.proofs.CountedSteps.{first_begins, some_left}
 
@@ -68,28 +68,28 @@ module _ (n : ℕ) (ts : List Symbol) where
       by_test false = refl
 
 pub any_count : (n : ℕ) (ts : List Symbol) → k.CountCalled ≡ first_class ts → read_any_agg n ts ≡ read_count_told n ts
-unfolding read_any_agg
-any_count n [] q = cc
+unfolding read_any_agg same_class
+any_count n [] q = absurd (not_false (ap (same_class k.CountCalled) q))
 any_count n (s ∷ ts) q = rw (← q) (count_is n (s ∷ ts))
 
 pub any_sum : (n : ℕ) (ts : List Symbol) → k.SumCalled ≡ first_class ts → read_any_agg n ts ≡ read_aggregate_told k.SumCalled n ts
-unfolding read_any_agg
-any_sum n [] q = cc
+unfolding read_any_agg same_class
+any_sum n [] q = absurd (not_false (ap (same_class k.SumCalled) q))
 any_sum n (s ∷ ts) q = rw (← q) (aggregate_is n (s ∷ ts) k.SumCalled)
 
 pub any_min : (n : ℕ) (ts : List Symbol) → k.MinCalled ≡ first_class ts → read_any_agg n ts ≡ read_aggregate_told k.MinCalled n ts
-unfolding read_any_agg
-any_min n [] q = cc
+unfolding read_any_agg same_class
+any_min n [] q = absurd (not_false (ap (same_class k.MinCalled) q))
 any_min n (s ∷ ts) q = rw (← q) (aggregate_is n (s ∷ ts) k.MinCalled)
 
 pub any_max : (n : ℕ) (ts : List Symbol) → k.MaxCalled ≡ first_class ts → read_any_agg n ts ≡ read_aggregate_told k.MaxCalled n ts
-unfolding read_any_agg
-any_max n [] q = cc
+unfolding read_any_agg same_class
+any_max n [] q = absurd (not_false (ap (same_class k.MaxCalled) q))
 any_max n (s ∷ ts) q = rw (← q) (aggregate_is n (s ∷ ts) k.MaxCalled)
 
 pub any_avg : (n : ℕ) (ts : List Symbol) → k.AvgCalled ≡ first_class ts → read_any_agg n ts ≡ read_aggregate_told k.AvgCalled n ts
-unfolding read_any_agg
-any_avg n [] q = cc
+unfolding read_any_agg same_class
+any_avg n [] q = absurd (not_false (ap (same_class k.AvgCalled) q))
 any_avg n (s ∷ ts) q = rw (← q) (aggregate_is n (s ∷ ts) k.AvgCalled)
 
 pub any_none : (n : ℕ) (ts : List Symbol) → is_agg (first_class ts) ≡ false → read_any_agg n ts ≡ failed None ts
@@ -178,7 +178,7 @@ module _ {A : Type 0} (over : Class → Option Fault) (none : over k.NoToken ≡
 over_is : (c : Class) → is_step c ≡ true → over_step c ≡ Some too_many
 over_is k.Dot h = refl
 over_is k.LeftBracket h = refl
-over_is _ h = cc
+over_is _ h = absurd (not_true h)
 
 module _ (all : List Step) (n : ℕ) (ts : List Symbol) where
   pub steps_stop : (most : ℕ) → is_step (first_class ts) ≡ false → read_given (λ rest. all ++ rest) (read_steps most) n ts ≡ found (all, n) ts

@@ -31,7 +31,6 @@ module _ (room : Room) (inner : Reader Expr) where
   in_is negated n ts = by_test (starts (of k.In) ts)
     where
       by_test : (b : Bool) → chosen b (read_given (among negated) (read_members room inner) n (drop 1 ts)) (failed None ts) ≡ chosen b (read_made {B = Tail × ℕ} (λ p. (among negated p.0, p.1)) (read_in_brackets room.here (read_list_of 1000 (λ s. over_class room.deeper (class s)) (of k.Comma) inner) n (drop 1 ts))) (failed None ts)
-      unfolding read_members
       by_test true = ap (read_made (λ p. (among negated p.0, p.1))) (enclosed_is room.here (read_list_of 1000 (λ s. over_class room.deeper (class s)) (of k.Comma) inner) n (drop 1 ts))
       by_test false = refl
 

@@ -84,12 +84,10 @@ module _ (room : Bool) (ts : List Symbol) where
               by_closing false = refl
 
       opened : (o : Outcome Symbol Fault Symbol) → read_made {B = CastTarget} decimal_target (read_made {B = Option (ℕ × Option ℕ)} Some (and_then o (λ s left. and_then (read_decimal_digits left) (λ d rest. chosen (starts (of k.RightParenthesis) rest) (found d (drop 1 rest)) (failed None rest))))) ≡ and_then (read_made (λ s. tt) o) (λ u left. and_then (read_terminal (digits_within 1 38) left) (λ p more. and_then (read_scale p more) (λ s rest. chosen (starts (of k.RightParenthesis) rest) (found (decimal_target (Some (p, s))) (drop 1 rest)) (failed None rest))))
-      unfolding read_decimal_digits
       opened (failed j left) = refl
       opened (found s left) = behind_digits (read_terminal (digits_within 1 38) left)
 
       by_test : (b : Bool) → read_made {B = CastTarget} decimal_target (chosen b (read_made {B = Option (ℕ × Option ℕ)} Some (and_then (read_terminal (opening room k.LeftParenthesis) ts) (λ s left. and_then (read_decimal_digits left) (λ d rest. chosen (starts (of k.RightParenthesis) rest) (found d (drop 1 rest)) (failed None rest))))) (found None ts)) ≡ chosen b (and_then (read_open room ts) (λ u left. and_then (read_terminal (digits_within 1 38) left) (λ p more. and_then (read_scale p more) (λ s rest. chosen (starts (of k.RightParenthesis) rest) (found (decimal_target (Some (p, s))) (drop 1 rest)) (failed None rest))))) (found target.Decimal ts)
-      unfolding read_open
       by_test true = opened (read_terminal (opening room k.LeftParenthesis) ts)
       by_test false = refl
 

@@ -1,8 +1,9 @@
 -- A query as the parser holds it, seen as it is written.
-use Rattle.std.specs.Prelude.{◌≡◌, ◌≢◌, ℕ, true, List, [], length, drop, if◌then◌else◌, Option, Some, None, Result, Ok, Err}
+use Rattle.std.specs.Prelude.{◌≡◌, ◌≢◌, ℕ, Bool, true, ◌&&◌, not, is_some, List, [], length, drop, if◌then◌else◌, Option, Some, None, Result, Ok, Err}
 use Rattle.sql_tokens.specs.Cutting.{Symbol, first_class, place_or}
 use Rattle.sql_tokens.specs.declared.class.Class.TheVariants as k
 use Rattle.sql_tokens.specs.Classes.{same_class}
+use Rattle.sql_tokens.specs.Payloads.{first_of, word_of}
 use Rattle.grammar_rules.specs.Readers.{Outcome, found, failed}
 use Rattle.sql_grammar.specs.declared.tree.Name.{Name}
 use Rattle.sql_grammar.specs.declared.tree.Selection.TheVariants as selection
@@ -45,9 +46,13 @@ AllOfName ts None = IsFailed (read_all_of_name ts)
 
 -- ---- errors
 
--- no token in sight is the end
+-- no token is in sight: none has a class, and none is a word
+abbrev pub at_end : List Symbol → Bool
+at_end ts = same_class k.NoToken (first_class ts) && not (is_some (first_of word_of ts))
+
+-- where none is in sight, none is left
 abbrev pub NoneIsEnd : List Symbol → Type 0
-NoneIsEnd ts = same_class k.NoToken (first_class ts) ≡ true → ts ≡ []
+NoneIsEnd ts = at_end ts ≡ true → ts ≡ []
 
 -- the code of a token that is refused
 abbrev pub refused_code : List Symbol → SqlCode

@@ -9,7 +9,7 @@ mod literals;
 mod logic;
 mod nest;
 mod operators;
-mod parse;
+mod parser;
 mod path;
 mod predicates;
 mod primary;
@@ -21,7 +21,7 @@ mod tokens;
 mod totals;
 mod types;
 
-pub use parse::parse;
+pub use parser::parse;
 pub use sql_grammar::{
     Agg, Arm, CastTarget, CompareOp, DatePart, Expr, Item, Name, ParseError, PathStep, ProdOp, ProdPart,
     Query, Selection, SqlCode, SqlError, Step, SumOp, SumPart, Total, texts_have_one_parse,

@@ -29,8 +29,8 @@ pub(crate) fn negation<F: Fn(&mut Tokens<'_>, &mut u32) -> Result<Boxed<Expr>, S
 {
     if sees(tokens, Class::Not) {
         tokens.skip();
-        let value = pred(nest, tokens, primaries)?;
-        return Ok(Boxed::new(nest.alloc, Expr::Not(value))?);
+        let negated = pred(nest, tokens, primaries)?;
+        return Ok(Boxed::new(nest.alloc, Expr::Not(negated))?);
     }
     let value = pred(nest, tokens, primaries)?;
     Ok(value)

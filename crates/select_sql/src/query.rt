@@ -98,7 +98,8 @@ fn select_list(
         tokens.skip();
         return Ok(Listed::Everything);
     }
-    if let Some(name) = all_of_name(alloc, ahead)? {
+    let named = all_of_name(alloc, ahead)?;
+    if let Some(name) = named {
         tokens.skip();
         tokens.skip();
         tokens.skip();
@@ -141,6 +142,7 @@ fn ending(tokens: &mut Tokens<'_>) -> Result<Option<u64>, Stop>
     let found = limit(tokens)?;
     if sees(tokens, Class::Semicolon) {
         tokens.skip();
+        return Ok(found);
     }
     Ok(found)
 }

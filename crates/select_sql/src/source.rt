@@ -36,7 +36,7 @@ fn element_rest(tokens: &mut Tokens<'_>) -> Result<Step, Stop>
 }
 
 /// `*` and `]`.
-#[tactic(auto, unfolding(sql_grammar::specs::QueryReaders::read_all_rest), using(crate::proofs::TokenSteps::word_refused, crate::proofs::TokenSteps::word_made))]
+#[tactic(auto, unfolding(sql_grammar::specs::QueryReaders::read_all_rest), using(crate::proofs::WordSteps::word_refused, crate::proofs::WordSteps::word_made))]
 fn all_rest(tokens: &mut Tokens<'_>) -> Result<Step, Stop>
     ensures { (n : ℕ) → GivesCounted (read_all_rest n tokens.old.symbols) result n tokens.new.symbols }
 {

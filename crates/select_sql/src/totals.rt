@@ -104,7 +104,6 @@ fn any_agg(alloc: Global, tokens: &mut Tokens<'_>, primaries: &mut u32) -> Resul
 }
 
 /// Why a token of this class begins no aggregate.
-#[tactic(auto, using(crate::proofs::ClassSteps::mixed_told))]
 fn mixed(class: Class) -> Stop
     ensures { IsOver (mixed_class class) result }
 {
@@ -124,8 +123,9 @@ fn mixed(class: Class) -> Stop
 fn later_agg(alloc: Global, tokens: &mut Tokens<'_>, primaries: &mut u32) -> Result<Agg, Stop>
     ensures { GivesCounted (read_later_agg primaries.old tokens.old.symbols) result primaries.new tokens.new.symbols }
 {
-    if !is_agg(tokens.class()) {
-        return Err(mixed(tokens.class()));
+    let class = tokens.class();
+    if !is_agg(class) {
+        return Err(mixed(class));
     }
     let found = any_agg(alloc, tokens, primaries)?;
     Ok(found)

@@ -10,23 +10,23 @@ pub returns-in_err-found : goal.returns-in_err-found
 returns-in_err-found g c =
     let p = err_from_is_err_and c.from_residual.result c.from_residual.ensures.1 in
     let d = c.args.nest.now.depth in
-    rw (p.1, p.2) (λ m. primary_path (room_of d) (read_inside d) c.args.primaries.now c.args.tokens.now.symbols (rw (← c.class.ensures) (sym c.is_path_name.ensures ∙ c.if-is_path_name.true)) ∙ c.in_err-found.ensures m)
+    rw (p.1, p.2) (λ m. primary_path (room_of d) (read_inside d) c.args.primaries.now c.args.tokens.now.symbols (rw (← c.class-class.ensures) (sym c.is_path_name.ensures ∙ c.if-is_path_name.true)) ∙ c.in_err-found.ensures m)
 
 pub returns-then-is_path_name : goal.returns-then-is_path_name
 returns-then-is_path_name g c =
     let d = c.args.nest.now.depth in
-    primary_path (room_of d) (read_inside d) c.args.primaries.now c.args.tokens.now.symbols (rw (← c.class.ensures) (sym c.is_path_name.ensures ∙ c.if-is_path_name.true)) ∙ rw c.in_ok-boxed.ensures c.in_ok-found.ensures
+    primary_path (room_of d) (read_inside d) c.args.primaries.now c.args.tokens.now.symbols (rw (← c.class-class.ensures) (sym c.is_path_name.ensures ∙ c.if-is_path_name.true)) ∙ rw c.in_ok-boxed.ensures c.in_ok-found.ensures
 
 pub returns-then-is_function : goal.returns-then-is_function
 returns-then-is_function g c =
     let d = c.args.nest.now.depth in
-    rw (primary_function (room_of d) (read_inside d) c.args.primaries.now c.args.tokens.now.symbols (rw (← c.class.ensures) (sym c.is_function.ensures ∙ c.if-is_function.true)), ← c.class.ensures)
+    rw (primary_function (room_of d) (read_inside d) c.args.primaries.now c.args.tokens.now.symbols (rw (← c.class-class.ensures) (sym c.is_function.ensures ∙ c.if-is_function.true)), ← c.class-class.ensures)
     c.function.ensures
 
 pub returns-then-is_unknown_call : goal.returns-then-is_unknown_call
 returns-then-is_unknown_call g c =
     let d = c.args.nest.now.depth in
-    λ m. primary_unknown (room_of d) (read_inside d) c.args.primaries.now c.args.tokens.now.symbols (rw (← c.class.ensures) (sym c.is_unknown_call.ensures ∙ c.if-is_unknown_call.true))
+    λ m. primary_unknown (room_of d) (read_inside d) c.args.primaries.now c.args.tokens.now.symbols (rw (← c.class-class.ensures) (sym c.is_unknown_call.ensures ∙ c.if-is_unknown_call.true))
 
 pub returns-then-sees : goal.returns-then-sees
 returns-then-sees g c =
@@ -47,6 +47,6 @@ pub returns : goal.returns
 returns g c =
     let d = c.args.nest.now.depth in
     rw (primary_simple (room_of d) (read_inside d) c.args.primaries.now c.args.tokens.now.symbols
-    (rw (← c.class.ensures) (sym c.is_path_name.ensures ∙ c.if-is_path_name.false)) (rw (← c.class.ensures) (sym c.is_function.ensures ∙ c.if-is_function.false)) (rw (← c.class.ensures) (sym c.is_unknown_call.ensures ∙ c.if-is_unknown_call.false))
+    (rw (← c.class-class.ensures) (sym c.is_path_name.ensures ∙ c.if-is_path_name.false)) (rw (← c.class-class.ensures) (sym c.is_function.ensures ∙ c.if-is_function.false)) (rw (← c.class-class.ensures) (sym c.is_unknown_call.ensures ∙ c.if-is_unknown_call.false))
     (sym c.sees.ensures ∙ c.if-sees.false) (sym c.sees-2.ensures ∙ c.if-sees-2.false) (sym c.sees-3.ensures ∙ c.if-sees-3.false))
     c.literal.ensures

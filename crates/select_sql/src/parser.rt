@@ -6,7 +6,7 @@ ghost use Rattle.sql_grammar.specs.declared.error.ParseError.TheVariants as erro
 ghost use Rattle.sql_grammar.specs.Faults.{Spells, FaultOf, IsCut, IsWritten, is_same_name, names_source, selection_of, query_of, place_of};
 ghost use Rattle.sql_grammar.specs.QueryReaders.{read_whole_query};
 ghost use Rattle.select_sql.specs.declared.stop.Stop.TheVariants as stop;
-ghost use Rattle.select_sql.specs.Written.{GivesAs, NoneIsEnd, listed, written, refused_code, stop_code, error_of};
+ghost use Rattle.select_sql.specs.Written.{GivesAs, NoneIsEnd, at_end, listed, written, refused_code, stop_code, error_of};
 
 use crate::query::{Listed, Parts, whole};
 use crate::stop::Stop;
@@ -53,13 +53,20 @@ fn refusal(code: SqlCode, at: u64) -> ParseError
     ParseError::Refused(SqlError { code, at })
 }
 
+/// Whether no token is in sight.
+fn is_at_end(tokens: &Tokens<'_>) -> bool
+    ensures { result ≡ at_end tokens.now.symbols }
+{
+    tokens.sees(Class::NoToken) && tokens.word().is_none()
+}
+
 /// The place of the token in sight, or the end of the text.
 #[tactic(auto, using(crate::proofs::AnswerSteps::place_anywhere))]
 fn place(text: &str, tokens: &Tokens<'_>) -> u64
     requires { NoneIsEnd tokens.now.symbols }
     ensures { result ≡ place_or (length text.now) tokens.now.symbols }
 {
-    if tokens.sees(Class::NoToken) {
+    if is_at_end(tokens) {
         return text.len() as u64;
     }
     tokens.place()
@@ -76,10 +83,10 @@ fn refused_code(tokens: &Tokens<'_>) -> SqlCode
 }
 
 /// The code of a stop at the token in sight, but for want of memory.
-fn stop_code(tokens: &Tokens<'_>, stop: Stop) -> Option<SqlCode>
-    ensures { result ≡ stop_code stop tokens.now.symbols }
+fn stop_code(tokens: &Tokens<'_>, reason: Stop) -> Option<SqlCode>
+    ensures { result ≡ stop_code reason tokens.now.symbols }
 {
-    match stop {
+    match reason {
         Stop::Refused => Some(refused_code(tokens)),
         Stop::UnknownFunction => Some(SqlCode::UnknownFunction),
         Stop::AggregateMixed => Some(SqlCode::AggregateMixed),
@@ -93,11 +100,11 @@ fn stop_code(tokens: &Tokens<'_>, stop: Stop) -> Option<SqlCode>
 }
 
 /// The error that a stop at the token in sight is.
-fn stopped(text: &str, tokens: &Tokens<'_>, stop: Stop) -> ParseError
-    requires { stop ≢ stop.Memory → NoneIsEnd tokens.now.symbols }
-    ensures { result ≡ error_of text.now stop tokens.now.symbols }
+fn stopped(text: &str, tokens: &Tokens<'_>, reason: Stop) -> ParseError
+    requires { reason ≢ stop.Memory → NoneIsEnd tokens.now.symbols }
+    ensures { result ≡ error_of text.now reason tokens.now.symbols }
 {
-    match stop_code(tokens, stop) {
+    match stop_code(tokens, reason) {
         Some(code) => refusal(code, place(text, tokens)),
         None => ParseError::OutOfMemory,
     }
@@ -205,11 +212,11 @@ fn answer(text: &str, tokens: &Tokens<'_>, outcome: Result<Parts, Stop>) -> Resu
 {
     match outcome {
         Ok(parts) => {
-            if tokens.sees(Class::NoToken) {
+            if is_at_end(tokens) {
                 return finished(text, parts);
             }
             Err(refusal(refused_code(tokens), place(text, tokens)))
         }
-        Err(stop) => Err(stopped(text, tokens, stop)),
+        Err(reason) => Err(stopped(text, tokens, reason)),
     }
 }
