@@ -1,4 +1,5 @@
 pub mod AnswerSteps
+pub mod ArgumentSteps
 pub mod ChainSteps
 pub mod ClassSteps
 pub mod CountedSteps
@@ -11,7 +12,7 @@ pub mod OpenSteps
 pub mod PathSteps
 pub mod PrimarySteps
 pub mod QuerySteps
+pub mod SelectSteps
 pub mod TailSteps
 pub mod TokenSteps
 pub mod WordSteps
-pub mod SelectSteps

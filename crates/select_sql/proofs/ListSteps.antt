@@ -1,5 +1,5 @@
 -- The loops over the members of lists, as equations of their readers: a list, and a list with a limit.
-use Rattle.std.proofs.Common.{◌≡◌, ℕ, true, false, List, [], ◌∷◌, ◌++◌, Option, refl, ap, ◌∙◌}
+use Rattle.std.proofs.Common.{◌≡◌, ℕ, Bool, true, false, List, [], ◌∷◌, ◌++◌, Option, refl, ap, ◌∙◌}
 use Rattle.sql_tokens.specs.Cutting.{Symbol}
 use Rattle.grammar_rules.specs.Readers.{Outcome, found, failed, starts, read_made}
 use Rattle.grammar_rules.specs.CountedReaders.{CountedReader, read_chain, read_links}

@@ -9,10 +9,10 @@ use Rattle.sql_grammar.specs.declared.tree.Expr.{Expr}
 use Rattle.sql_grammar.specs.declared.tree.Expr.TheVariants as e
 use Rattle.grammar_rules.specs.Readers.{Outcome, found, failed, and_then, read_made, read_terminal, read_before, starts}
 use Rattle.grammar_rules.specs.CountedReaders.{read_one_more}
-use Rattle.sql_grammar.specs.Marks.{Fault, unknown_function, unsupported_type, too_many, class, of, is_path_name, is_unknown_call, Form, path_form, unknown_call, form_of}
+use Rattle.sql_grammar.specs.Marks.{Fault, unknown_function, unsupported_type, too_many, class, of, is_path_name, is_unknown_call, is_number, Form, path_form, unknown_call, exponent_form, text_in, number_in, literal_text, literal_number, truth, untruth, null_form, missing_form, form_of}
 use Rattle.sql_grammar.specs.Expressions.{Room, word, opening}
-use Rattle.sql_grammar.specs.Readers.{Reader, read_enclosed, read_path, read_call, read_group, read_case, read_case_rest, read_primary_of, read_primary}
-use Rattle.select_sql.specs.Parsing.{is_function, read_arguments, read_open, read_counted_open, read_in_brackets, read_function, read_bracketed, read_case_told, read_simple}
+use Rattle.sql_grammar.specs.Readers.{Reader, read_literal, read_enclosed, read_path, read_call, read_group, read_case, read_case_rest, read_primary_of, read_primary}
+use Rattle.select_sql.specs.Parsing.{is_function, read_arguments, read_open, read_counted_open, read_in_brackets, read_function, read_bracketed, read_case_told, is_constant, read_constant, read_simple}
 use Rattle.select_sql.proofs.CountedSteps.{constant_is}
 
 pub not_true : false ≡ true → ⊥
@@ -22,7 +22,7 @@ pub not_false : true ≡ false → ⊥
 not_false h = cc
 
 -- a value that isn't looked at may be dropped
-pub and_dropped : {A B : Type 0} (o : Outcome Symbol Fault A) (next : List Symbol → Outcome Symbol Fault B) → and_then o (λ a left. next left) ≡ and_then (read_made (λ a. tt) o) (λ u left. next left)
+pub and_dropped : {A B : Type 0} (o : Outcome Symbol Fault A) (next : List Symbol → Outcome Symbol Fault B) → and_then o (λ a left. next left) ≡ and_then (read_made {B = Unit {0}} (λ a. tt) o) (λ u left. next left)
 and_dropped (found a left) next = refl
 and_dropped (failed j left) next = refl
 
@@ -87,7 +87,35 @@ by_unknown k.TimezoneHourCalled h = refl
 by_unknown k.TimezoneMinuteCalled h = refl
 by_unknown _ h = absurd (not_true h)
 
+by_exponent : (c : Class) → same_class k.ExponentNumber c ≡ true → form_of c ≡ Some exponent_form
+by_exponent c h = let q : k.ExponentNumber ≡ c = same_is k.ExponentNumber c h in rw (← q) refl
+
+-- a word that is an expression
+simple_constant : (n : ℕ) (s : Symbol) (ts : List Symbol) → same_class k.Text (class s) ≡ false → is_number (class s) ≡ false → is_constant (class s) ≡ true → read_simple n (s ∷ ts) ≡ read_constant (class s) n (s ∷ ts)
+unfolding read_simple
+simple_constant n s ts a b c = rw (a, b, c) refl
+
+simple_text : (n : ℕ) (s : Symbol) (ts : List Symbol) → same_class k.Text (class s) ≡ true → read_simple n (s ∷ ts) ≡ read_literal (same_class k.Text) (λ x. e.Text (text_in x.token)) n (s ∷ ts)
+unfolding read_simple
+simple_text n s ts a = rw a refl
+
+simple_number : (n : ℕ) (s : Symbol) (ts : List Symbol) → same_class k.Text (class s) ≡ false → is_number (class s) ≡ true → read_simple n (s ∷ ts) ≡ read_literal is_number (λ x. e.Number (number_in x.token)) n (s ∷ ts)
+unfolding read_simple
+simple_number n s ts a b = rw (a, b) refl
+
+simple_none : (n : ℕ) (s : Symbol) (ts : List Symbol) → same_class k.Text (class s) ≡ false → is_number (class s) ≡ false → is_constant (class s) ≡ false → read_simple n (s ∷ ts) ≡ failed None (s ∷ ts)
+unfolding read_simple
+simple_none n s ts a b c = rw (a, b, c) refl
+
 module _ (room : Room) (inner : Reader Expr) (n : ℕ) where
+  formed : (f : Form) (s : Symbol) (ts : List Symbol) → form_of (class s) ≡ Some f → read_primary room inner n (s ∷ ts) ≡ read_primary_of room inner f n (s ∷ ts)
+  unfolding read_primary
+  formed f s ts h = rw h refl
+
+  formless : (s : Symbol) (ts : List Symbol) → form_of (class s) ≡ None → read_primary room inner n (s ∷ ts) ≡ failed None (s ∷ ts)
+  unfolding read_primary
+  formless s ts h = rw h refl
+
   pub primary_path : (ts : List Symbol) → is_path_name (first_class ts) ≡ true → read_primary room inner n ts ≡ read_path n ts
   unfolding read_primary read_primary_of
   primary_path [] h = let p : false ≡ true = h in cc
@@ -99,9 +127,9 @@ module _ (room : Room) (inner : Reader Expr) (n : ℕ) where
   primary_unknown (s ∷ ts) h = rw (by_unknown (class s) h, h) refl
 
   pub primary_exponent : (ts : List Symbol) → starts (of k.ExponentNumber) ts ≡ true → read_primary room inner n ts ≡ failed (Some unsupported_type) ts
-  unfolding read_primary read_primary_of same_class
+  unfolding read_primary read_primary_of
   primary_exponent [] h = let p : false ≡ true = h in cc
-  primary_exponent (s ∷ ts) h = let q : k.ExponentNumber ≡ class s = same_is k.ExponentNumber (class s) h in rw (← q) refl
+  primary_exponent (s ∷ ts) h = rw (by_exponent (class s) h, h) refl
 
   pub primary_group : (ts : List Symbol) → starts (of k.LeftParenthesis) ts ≡ true → read_primary room inner n ts ≡ read_bracketed room.here inner n ts
   unfolding read_primary read_primary_of
@@ -182,11 +210,14 @@ module _ (room : Room) (inner : Reader Expr) (n : ℕ) where
   by_simple k.ExponentNumber s ts q h1 h2 h3 h4 h5 h6 = absurd (not_false h4)
   by_simple k.LeftParenthesis s ts q h1 h2 h3 h4 h5 h6 = absurd (not_false h5)
   by_simple k.Case s ts q h1 h2 h3 h4 h5 h6 = absurd (not_false h6)
-  by_simple k.True s ts q h1 h2 h3 h4 h5 h6 = rw q (constant_is k.True (e.Bool true) n (s ∷ ts))
-  by_simple k.False s ts q h1 h2 h3 h4 h5 h6 = rw q (constant_is k.False (e.Bool false) n (s ∷ ts))
-  by_simple k.Null s ts q h1 h2 h3 h4 h5 h6 = rw q (constant_is k.Null e.Null n (s ∷ ts))
-  by_simple k.Missing s ts q h1 h2 h3 h4 h5 h6 = rw q (constant_is k.Missing e.Missing n (s ∷ ts))
-  by_simple _ s ts q h1 h2 h3 h4 h5 h6 = rw q refl
+  by_simple k.True s ts q h1 h2 h3 h4 h5 h6 = formed truth s ts (rw q refl) ∙ (constant_is k.True (e.Bool true) n (s ∷ ts) ∙ (sym (ap (λ d. read_constant d n (s ∷ ts)) q) ∙ sym (simple_constant n s ts (rw q refl) (rw q refl) (rw q refl))))
+  by_simple k.False s ts q h1 h2 h3 h4 h5 h6 = formed untruth s ts (rw q refl) ∙ (constant_is k.False (e.Bool false) n (s ∷ ts) ∙ (sym (ap (λ d. read_constant d n (s ∷ ts)) q) ∙ sym (simple_constant n s ts (rw q refl) (rw q refl) (rw q refl))))
+  by_simple k.Null s ts q h1 h2 h3 h4 h5 h6 = formed null_form s ts (rw q refl) ∙ (constant_is k.Null e.Null n (s ∷ ts) ∙ (sym (ap (λ d. read_constant d n (s ∷ ts)) q) ∙ sym (simple_constant n s ts (rw q refl) (rw q refl) (rw q refl))))
+  by_simple k.Missing s ts q h1 h2 h3 h4 h5 h6 = formed missing_form s ts (rw q refl) ∙ (constant_is k.Missing e.Missing n (s ∷ ts) ∙ (sym (ap (λ d. read_constant d n (s ∷ ts)) q) ∙ sym (simple_constant n s ts (rw q refl) (rw q refl) (rw q refl))))
+  by_simple k.Text s ts q h1 h2 h3 h4 h5 h6 = formed literal_text s ts (rw q refl) ∙ sym (simple_text n s ts (rw q refl))
+  by_simple k.WholeNumber s ts q h1 h2 h3 h4 h5 h6 = formed literal_number s ts (rw q refl) ∙ sym (simple_number n s ts (rw q refl) (rw q refl))
+  by_simple k.PointNumber s ts q h1 h2 h3 h4 h5 h6 = formed literal_number s ts (rw q refl) ∙ sym (simple_number n s ts (rw q refl) (rw q refl))
+  by_simple _ s ts q h1 h2 h3 h4 h5 h6 = formless s ts (rw q refl) ∙ sym (simple_none n s ts (rw q refl) (rw q refl) (rw q refl))
 
   pub primary_simple : (ts : List Symbol) → is_path_name (first_class ts) ≡ false → is_function (first_class ts) ≡ false → is_unknown_call (first_class ts) ≡ false → starts (of k.ExponentNumber) ts ≡ false → starts (of k.LeftParenthesis) ts ≡ false → starts (of k.Case) ts ≡ false → read_primary room inner n ts ≡ read_simple n ts
   unfolding read_primary read_simple

@@ -18,7 +18,6 @@ use Rattle.grammar_rules.specs.CountedReaders.{read_given, read_counted_past, re
 use Rattle.grammar_rules.proofs.Reading.{past_sight}
 use Rattle.grammar_rules.proofs.Counts.{reads-counted_past, reads-item}
 use Rattle.grammar_rules.proofs.CountedMany.{CountedShrinks, counted_shrinks, read_many_from-unrolled}
-use Rattle.grammar_rules.proofs.Clear.{Sight}
 use Rattle.sql_grammar.specs.Forms.{read_form}
 use Rattle.sql_grammar.specs.Marks.{Fault, too_many, of, class, begins_expression}
 use Rattle.sql_grammar.specs.Expressions.{over_class}
@@ -37,12 +36,9 @@ use Rattle.select_sql.proofs.CountedSteps.{first_begins, some_left}
 
 pub row_less : CountedShrinks (read_counted_past (of k.Comma) (read_item (λ s. over_class true (class s)) read_row))
 row_less =
-    counted_shrinks (past (of k.Comma) (item (λ s. over_class true (class s)) row)) (past_sight (of k.Comma) (on row_sight)) (read_counted_past (of k.Comma) (read_item (λ s. over_class true (class s)) read_row))
-    (reads-counted_past (of k.Comma) (item (λ s. over_class true (class s)) row) (on row_sight) (read_item (λ s. over_class true (class s)) read_row)
-    (reads-item (λ s. over_class true (class s)) row (on row_sight) read_row reads-row refl (λ s. seen_over true (class s)))) refl
-  where
-    abbrev row_sight : Sight Class
-    row_sight = seen begins_expression (λ c. is k.As c || or_more c)
+    counted_shrinks (past (of k.Comma) (item (λ s. over_class true (class s)) row)) (past_sight (of k.Comma) (on (seen begins_expression (λ c. is k.As c || or_more c)))) (read_counted_past (of k.Comma) (read_item (λ s. over_class true (class s)) read_row))
+    (reads-counted_past (of k.Comma) (item (λ s. over_class true (class s)) row) (on (seen begins_expression (λ c. is k.As c || or_more c))) (read_item (λ s. over_class true (class s)) read_row)
+    (reads-item (λ s. over_class true (class s)) row (on (seen begins_expression (λ c. is k.As c || or_more c))) read_row reads-row refl (λ s. seen_over true (class s)))) refl
 
 pub total_less : CountedShrinks (read_counted_past (of k.Comma) read_later_total)
 unfolding same_class

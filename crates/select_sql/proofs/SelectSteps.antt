@@ -1,20 +1,24 @@
 -- A whole query, as the parser reads it.
-use Rattle.std.proofs.Common.{◌≡◌, ℕ, Bool, true, false, List, [], ◌∷◌, drop, Some, None, Option, refl, sym, ap, ◌∙◌}
+use Rattle.std.proofs.Common.{◌≡◌, ℕ, Bool, true, false, List, [], ◌∷◌, ◌++◌, drop, Some, None, Option, refl, sym, ap, subst, ◌∙◌}
 use Rattle.sql_tokens.specs.declared.class.Class.TheVariants as k
+use Rattle.sql_tokens.specs.declared.class.Class.{Class}
+use Rattle.sql_tokens.specs.Classes.{same_class}
+use Rattle.sql_tokens.proofs.ClassLaws.{same_is}
 use Rattle.sql_tokens.specs.Cutting.{Symbol, first_class}
 use Rattle.sql_grammar.specs.declared.tree.Expr.{Expr}
 use Rattle.sql_grammar.specs.declared.tree.Name.{Name}
 use Rattle.sql_grammar.specs.declared.tree.Step.{Step}
 use Rattle.grammar_rules.specs.Readers.{Outcome, found, failed, read_made, read_terminal, read_optional, unless_found, starts}
 use Rattle.grammar_rules.specs.CountedReaders.{read_given}
-use Rattle.sql_grammar.specs.Marks.{Fault, class, of, name_of, is_path_name, is_source}
+use Rattle.sql_grammar.specs.Marks.{Fault, class, of, name, name_of, is_name, is_path_name, is_source}
 use Rattle.sql_grammar.specs.Expressions.{word}
 use Rattle.sql_grammar.specs.Queries.{Selected, everything, everything_of, selected, Written, written_of}
-use Rattle.sql_grammar.specs.Readers.{begins}
-use Rattle.sql_grammar.specs.QueryReaders.{read_items, read_all_of_name, read_list, read_source_steps, read_alias, read_source, read_filter, read_limit, read_ending, read_behind_list, read_whole_query}
+use Rattle.sql_grammar.specs.Readers.{begins, is_step}
+use Rattle.sql_grammar.specs.QueryReaders.{read_items, read_all_of_name, read_list, read_named_step, read_element_rest, read_all_rest, read_steps, read_own_steps, read_bracket_steps, read_source_steps, begins_alias, read_name, read_alias, read_source, read_filter, read_limit, read_ending, read_behind_list, read_whole_query}
 use Rattle.select_sql.specs.Parsing.{name_at}
 use Rattle.select_sql.specs.Written.{IsFailed, AllOfName}
 use Rattle.select_sql.proofs.CountedSteps.{first_begins}
+use Rattle.select_sql.proofs.PrimarySteps.{not_false}
 use Rattle.select_sql.proofs.WordSteps.{word_made}
 
 -- ---- `name . *`
@@ -142,3 +146,59 @@ module _ (n : ℕ) (ts : List Symbol) where
         twice : (o : Outcome Symbol Fault (((List Step × Option Name) × (Option Expr × Option ℕ)) × ℕ)) → read_made {B = Written × ℕ} (λ p. (written_of p.0.0 p.0.1.0 p.0.1.1.0 p.0.1.1.1, p.1)) (read_made {B = (Selected × ((List Step × Option Name) × (Option Expr × Option ℕ))) × ℕ} (λ q. ((l, q.0), q.1)) o) ≡ read_made (λ p. (written_of l p.0.0 p.0.1.0 p.0.1.1, p.1)) o
         twice (found p us) = refl
         twice (failed j us) = refl
+
+-- ---- the source's name
+
+by_alias : (c : Class) → is_name c ≡ false → same_class k.As c ≡ false → begins_alias c ≡ false
+unfolding same_class
+by_alias k.As h g = absurd (not_false g)
+by_alias _ h g = h
+
+no_alias : (ts : List Symbol) → starts (of k.As) ts ≡ false → is_name (first_class ts) ≡ false → starts (begins begins_alias) ts ≡ false
+no_alias [] g h = refl
+no_alias (s ∷ ts) g h = by_alias (class s) h g
+
+some_alias : (ts : List Symbol) → starts (of k.As) ts ≡ true → starts (begins begins_alias) ts ≡ true
+some_alias [] g = g
+some_alias (s ∷ ts) g = let q : k.As ≡ class s = same_is k.As (class s) g in rw (← q) refl
+
+module _ (n : ℕ) (ts : List Symbol) where
+  pub alias_failed : (left : List Symbol) → starts (of k.As) ts ≡ true → left ≡ drop 1 ts → (j : Option Fault) (rest : List Symbol) → read_terminal name left ≡ failed j rest → read_alias n ts ≡ failed j rest
+  unfolding read_alias read_name
+  alias_failed left g l j rest h = rw (some_alias ts g, g, ← l, h) refl
+
+  pub alias_found : (left : List Symbol) → starts (of k.As) ts ≡ true → left ≡ drop 1 ts → (a : Name) (rest : List Symbol) → read_terminal name left ≡ found a rest → read_alias n ts ≡ found (Some a, n) rest
+  unfolding read_alias read_name
+  alias_found left g l a rest h = rw (some_alias ts g, g, ← l, h) refl
+
+  pub alias_none : starts (of k.As) ts ≡ false → is_name (first_class ts) ≡ false → read_alias n ts ≡ found (None, n) ts
+  unfolding read_alias
+  alias_none g h = rw (no_alias ts g h) refl
+
+-- ---- the same tokens
+
+pub all_moved : (us ts : List Symbol) (o p : Option Name) → us ≡ ts → o ≡ p → AllOfName us o → AllOfName ts p
+all_moved us ts o p e f h = subst (λ z. AllOfName z p) e (subst (λ y. AllOfName us y) f h)
+
+-- ---- the steps of the source
+
+-- nothing before the rest
+onto_nothing : (o : Outcome Symbol Fault (List Step × ℕ)) → read_made {B = List Step × ℕ} (λ p. ([] ++ p.0, p.1)) o ≡ o
+onto_nothing (found p left) = refl
+onto_nothing (failed j left) = refl
+
+pub onto_one : (all : List Step) (a : Step) (most n : ℕ) (ts : List Symbol) → all ≡ [] ++ a ∷ [] → read_given (λ rest. a ∷ rest) (read_steps most) n ts ≡ read_given (λ rest. all ++ rest) (read_steps most) n ts
+onto_one all a most n ts e = rw e refl
+
+module _ (n : ℕ) (ts : List Symbol) (a : Step) (left : List Symbol) where
+  pub bracket_all : (all : List Step) → all ≡ [] → starts (of k.Star) ts ≡ true → read_all_rest n ts ≡ found (a, n) left → read_bracket_steps n ts ≡ read_given (λ rest. all ++ rest) (read_steps 64) n left
+  unfolding read_bracket_steps
+  bracket_all all e g h = rw (e, g, h) (sym (onto_nothing (read_steps 64 n left)))
+
+  pub bracket_own : starts (of k.Star) ts ≡ false → read_element_rest n ts ≡ found (a, n) left → read_bracket_steps n ts ≡ read_given (λ rest. a ∷ rest) (read_steps 63) n left
+  unfolding read_bracket_steps read_own_steps
+  bracket_own g h = rw (g, h) refl
+
+  pub source_own : is_step (first_class ts) ≡ true → starts (of k.Dot) ts ≡ true → read_named_step n ts ≡ found (a, n) left → read_source_steps n ts ≡ read_given (λ rest. a ∷ rest) (read_steps 63) n left
+  unfolding read_source_steps read_own_steps
+  source_own f g h = rw (sym (first_begins is_step refl ts) ∙ f, g, h) refl

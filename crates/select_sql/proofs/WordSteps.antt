@@ -66,30 +66,33 @@ module _ (room : Room) (inner : Reader Expr) (a : Expr) (n : ℕ) (ts : List Sym
 
 -- ---- types
 
+-- the bracket that closes
+shut : (p : ℕ) (s : Option ℕ) (left : List Symbol) (b : Bool) → read_made {T = Symbol} {K = Fault} {A = Option (ℕ × Option ℕ)} {B = CastTarget} decimal_target (read_made {T = Symbol} {K = Fault} {A = ℕ × Option ℕ} {B = Option (ℕ × Option ℕ)} Some (chosen {T = Symbol} {K = Fault} {A = ℕ × Option ℕ} b (found (p, s) (drop 1 left)) (failed None left))) ≡ chosen {T = Symbol} {K = Fault} {A = CastTarget} b (found (decimal_target (Some (p, s))) (drop 1 left)) (failed None left)
+shut p s left true = refl
+shut p s left false = refl
+
+scaled : (p : ℕ) (o : Outcome Symbol Fault (Option ℕ)) → read_made {T = Symbol} {K = Fault} {A = Option (ℕ × Option ℕ)} {B = CastTarget} decimal_target (read_made {T = Symbol} {K = Fault} {A = ℕ × Option ℕ} {B = Option (ℕ × Option ℕ)} Some (and_then (read_made {B = ℕ × Option ℕ} (λ s. (p, s)) o) (λ d left. chosen (starts (of k.RightParenthesis) left) (found d (drop 1 left)) (failed None left)))) ≡ and_then o (λ s rest. chosen (starts (of k.RightParenthesis) rest) (found (decimal_target (Some (p, s))) (drop 1 rest)) (failed None rest))
+scaled p (failed j left) = refl
+scaled p (found s left) = shut p s left (starts (of k.RightParenthesis) left)
+
+counted_digits : (o : Outcome Symbol Fault ℕ) → read_made {T = Symbol} {K = Fault} {A = Option (ℕ × Option ℕ)} {B = CastTarget} decimal_target (read_made {T = Symbol} {K = Fault} {A = ℕ × Option ℕ} {B = Option (ℕ × Option ℕ)} Some (and_then (and_then o (λ p rest. read_made {B = ℕ × Option ℕ} (λ s. (p, s)) (read_scale p rest))) (λ d left. chosen (starts (of k.RightParenthesis) left) (found d (drop 1 left)) (failed None left)))) ≡ and_then o (λ p more. and_then (read_scale p more) (λ s rest. chosen (starts (of k.RightParenthesis) rest) (found (decimal_target (Some (p, s))) (drop 1 rest)) (failed None rest)))
+counted_digits (failed j left) = refl
+counted_digits (found p rest) = scaled p (read_scale p rest)
+
+opened : (o : Outcome Symbol Fault Symbol) → read_made {T = Symbol} {K = Fault} {A = Option (ℕ × Option ℕ)} {B = CastTarget} decimal_target (read_made {T = Symbol} {K = Fault} {A = ℕ × Option ℕ} {B = Option (ℕ × Option ℕ)} Some (and_then o (λ s left. and_then (read_decimal_digits left) (λ d rest. chosen (starts (of k.RightParenthesis) rest) (found d (drop 1 rest)) (failed None rest))))) ≡ and_then (read_made {B = Unit {0}} (λ s. tt) o) (λ u left. and_then (read_terminal (digits_within 1 38) left) (λ p more. and_then (read_scale p more) (λ s rest. chosen (starts (of k.RightParenthesis) rest) (found (decimal_target (Some (p, s))) (drop 1 rest)) (failed None rest))))
+unfolding read_decimal_digits
+opened (failed j left) = refl
+opened (found s left) = counted_digits (read_terminal (digits_within 1 38) left)
+
 module _ (room : Bool) (ts : List Symbol) where
+  by_bracket : (b : Bool) → read_made {T = Symbol} {K = Fault} {A = Option (ℕ × Option ℕ)} {B = CastTarget} decimal_target (chosen {T = Symbol} {K = Fault} {A = Option (ℕ × Option ℕ)} b (read_made {B = Option (ℕ × Option ℕ)} Some (and_then (read_terminal (opening room k.LeftParenthesis) ts) (λ s left. and_then (read_decimal_digits left) (λ d rest. chosen (starts (of k.RightParenthesis) rest) (found d (drop 1 rest)) (failed None rest))))) (found None ts)) ≡ chosen b (and_then (read_open room ts) (λ u left. and_then (read_terminal (digits_within 1 38) left) (λ p more. and_then (read_scale p more) (λ s rest. chosen (starts (of k.RightParenthesis) rest) (found (decimal_target (Some (p, s))) (drop 1 rest)) (failed None rest))))) (found target.Decimal ts)
+  unfolding read_open
+  by_bracket true = opened (read_terminal (opening room k.LeftParenthesis) ts)
+  by_bracket false = refl
+
   decimal_is : read_decimal room ts ≡ read_decimal_told room ts
-  unfolding read_decimal read_decimal_told read_decimal_digits read_open
-  decimal_is = by_test (starts (of k.LeftParenthesis) ts)
-    where
-      behind_digits : (o : Outcome Symbol Fault ℕ) → read_made {B = CastTarget} decimal_target (read_made {B = Option (ℕ × Option ℕ)} Some (and_then (and_then o (λ p rest. read_made (λ s. (p, s)) (read_scale p rest))) (λ d left. chosen (starts (of k.RightParenthesis) left) (found d (drop 1 left)) (failed None left)))) ≡ and_then o (λ p more. and_then (read_scale p more) (λ s rest. chosen (starts (of k.RightParenthesis) rest) (found (decimal_target (Some (p, s))) (drop 1 rest)) (failed None rest)))
-      behind_digits (failed j left) = refl
-      behind_digits (found p rest) = by_scale (read_scale p rest)
-        where
-          by_scale : (o : Outcome Symbol Fault (Option ℕ)) → read_made {B = CastTarget} decimal_target (read_made {B = Option (ℕ × Option ℕ)} Some (and_then (read_made (λ s. (p, s)) o) (λ d left. chosen (starts (of k.RightParenthesis) left) (found d (drop 1 left)) (failed None left)))) ≡ and_then o (λ s rest. chosen (starts (of k.RightParenthesis) rest) (found (decimal_target (Some (p, s))) (drop 1 rest)) (failed None rest))
-          by_scale (failed j left) = refl
-          by_scale (found s left) = by_closing (starts (of k.RightParenthesis) left)
-            where
-              by_closing : (b : Bool) → read_made {B = CastTarget} decimal_target (read_made {B = Option (ℕ × Option ℕ)} Some (chosen b (found (p, s) (drop 1 left)) (failed None left))) ≡ chosen b (found (decimal_target (Some (p, s))) (drop 1 left)) (failed None left)
-              by_closing true = refl
-              by_closing false = refl
-
-      opened : (o : Outcome Symbol Fault Symbol) → read_made {B = CastTarget} decimal_target (read_made {B = Option (ℕ × Option ℕ)} Some (and_then o (λ s left. and_then (read_decimal_digits left) (λ d rest. chosen (starts (of k.RightParenthesis) rest) (found d (drop 1 rest)) (failed None rest))))) ≡ and_then (read_made (λ s. tt) o) (λ u left. and_then (read_terminal (digits_within 1 38) left) (λ p more. and_then (read_scale p more) (λ s rest. chosen (starts (of k.RightParenthesis) rest) (found (decimal_target (Some (p, s))) (drop 1 rest)) (failed None rest))))
-      opened (failed j left) = refl
-      opened (found s left) = behind_digits (read_terminal (digits_within 1 38) left)
-
-      by_test : (b : Bool) → read_made {B = CastTarget} decimal_target (chosen b (read_made {B = Option (ℕ × Option ℕ)} Some (and_then (read_terminal (opening room k.LeftParenthesis) ts) (λ s left. and_then (read_decimal_digits left) (λ d rest. chosen (starts (of k.RightParenthesis) rest) (found d (drop 1 rest)) (failed None rest))))) (found None ts)) ≡ chosen b (and_then (read_open room ts) (λ u left. and_then (read_terminal (digits_within 1 38) left) (λ p more. and_then (read_scale p more) (λ s rest. chosen (starts (of k.RightParenthesis) rest) (found (decimal_target (Some (p, s))) (drop 1 rest)) (failed None rest))))) (found target.Decimal ts)
-      by_test true = opened (read_terminal (opening room k.LeftParenthesis) ts)
-      by_test false = refl
+  unfolding read_decimal read_decimal_told
+  decimal_is = by_bracket (starts (of k.LeftParenthesis) ts)
 
 faulty_is : (c : Class) → is_faulty (simple_type c) ≡ true → simple_type c ≡ faults unsupported_type
 faulty_is k.Select h = cc

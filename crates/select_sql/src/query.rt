@@ -8,7 +8,7 @@ ghost use Rattle.sql_grammar.specs.QueryReaders.{read_items, read_list, read_fil
 ghost use Rattle.select_sql.specs.Parsing.{Gives, GivesCounted};
 ghost use Rattle.select_sql.specs.Written.{GivesAs, AllOfName, listed, written};
 
-use crate::classes::begins_expression;
+use crate::classes::at_expression;
 use crate::expression::expression;
 use crate::items::{MAX_DEPTH, rows};
 use crate::path::{MAX_INDEX, is_path_name};
@@ -56,7 +56,7 @@ fn is_source(class: Class) -> bool
 fn items(alloc: Global, tokens: &mut Tokens<'_>, primaries: &mut u32) -> Result<Listed, Stop>
     ensures { GivesAs listed (read_given selected read_items primaries.old tokens.old.symbols) result primaries.new tokens.new.symbols }
 {
-    if begins_expression(tokens.class()) {
+    if at_expression(tokens) {
         let all = rows(alloc, tokens, primaries)?;
         return Ok(Listed::Rows(all));
     }
