@@ -679,7 +679,8 @@ fn is_so(expr: Option<&Expr>, kinds: &[Kind]) -> bool {
 fn counted(agg: &Agg) -> Option<&Expr> {
     match agg {
         Agg::CountAll => None,
-        Agg::Count(value) | Agg::Sum(value) | Agg::Min(value) | Agg::Max(value) | Agg::Avg(value) => Some(value),
+        Agg::Count(value) | Agg::Sum(value) | Agg::Min(value) | Agg::Max(value) | Agg::Avg(value) =>
+            Some(value),
     }
 }
 

@@ -80,7 +80,11 @@ fn row_behind(
 }
 
 /// The items of a record.
-pub(crate) fn rows(alloc: Global, tokens: &mut Tokens<'_>, primaries: &mut u32) -> Result<Items<Item>, Stop>
+pub(crate) fn rows(
+    alloc: Global,
+    tokens: &mut Tokens<'_>,
+    primaries: &mut u32,
+) -> Result<Items<Item>, Stop>
     ensures { GivesCounted (read_rows primaries.old tokens.old.symbols) result primaries.new tokens.new.symbols }
 {
     let mut left = MAX_ITEMS;

@@ -23,6 +23,7 @@ mod types;
 
 pub use parser::parse;
 pub use sql_grammar::{
-    Agg, Arm, CastTarget, CompareOp, DatePart, Expr, Item, Name, ParseError, PathStep, ProdOp, ProdPart,
-    Query, Selection, SqlCode, SqlError, Step, SumOp, SumPart, Total, texts_have_one_parse,
+    Agg, Arm, CastTarget, CompareOp, DatePart, Expr, Item, Name, ParseError, PathStep, ProdOp,
+    ProdPart, Query, Selection, SqlCode, SqlError, Step, SumOp, SumPart, Total,
+    texts_have_one_parse,
 };

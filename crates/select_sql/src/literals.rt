@@ -7,8 +7,8 @@ ghost use Rattle.sql_grammar.specs.Marks.{text_in, is_number, number_in};
 ghost use Rattle.select_sql.specs.Parsing.{GivesCounted, is_token, read_counted_token, read_counted_open};
 ghost use Rattle.sql_grammar.specs.Readers.{read_literal};
 
-use crate::stop::Stop;
 use crate::classes::is_number;
+use crate::stop::Stop;
 use crate::tokens::{number_at, sees, text_at};
 use sql_grammar::Expr;
 use sql_tokens::{Class, Tokens};

@@ -204,7 +204,11 @@ fn finished(text: &str, parts: Parts) -> Result<Query, ParseError>
 }
 
 /// The answer where these tokens are left.
-fn answer(text: &str, tokens: &Tokens<'_>, outcome: Result<Parts, Stop>) -> Result<Query, ParseError>
+fn answer(
+    text: &str,
+    tokens: &Tokens<'_>,
+    outcome: Result<Parts, Stop>,
+) -> Result<Query, ParseError>
     requires cut { IsCut text.now }
     requires read { (n : ℕ) × GivesAs written (read_whole_query 4096 (symbols_of text.now)) outcome n tokens.now.symbols }
     ensures parsed { IfOk result (λ query. Spells text.now query) }

@@ -8,7 +8,9 @@ ghost use Rattle.sql_grammar.specs.Marks.{of, class, escape};
 ghost use Rattle.sql_grammar.specs.Readers.{read_comparison, read_between, read_like, read_negatable, read_is, read_tail, read_pred};
 ghost use Rattle.select_sql.specs.Parsing.{Gives, GivesCounted, Reads, IsOver, read_inside, read_in_brackets, read_in_told, read_what, read_escape_told, only_one, tailed};
 
-use crate::classes::{begins_expression, begins_negatable, begins_tail, is_compare_op, is_unknown_call};
+use crate::classes::{
+    begins_expression, begins_negatable, begins_tail, is_compare_op, is_unknown_call,
+};
 use crate::nest::{Nest, inside};
 use crate::operators::comparison;
 use crate::stop::Stop;
@@ -37,7 +39,14 @@ pub(crate) fn compared<F: Fn(&mut Tokens<'_>, &mut u32) -> Result<Boxed<Expr>, S
 {
     let op = comparison(tokens)?;
     let right = sum(nest, tokens, primaries)?;
-    Ok(Boxed::new(nest.alloc, Expr::Compare { op, left: value, right })?)
+    Ok(Boxed::new(
+        nest.alloc,
+        Expr::Compare {
+            op,
+            left: value,
+            right,
+        },
+    )?)
 }
 
 /// BETWEEN behind this value.
@@ -78,7 +87,13 @@ pub(crate) fn over_member(class: Class, room: bool) -> Stop
     match class {
         Class::ExponentNumber => Stop::UnsupportedType,
         Class::LeftParenthesis | Class::Case => { if room { Stop::TooMany } else { Stop::TooDeep } }
-        _ => { if begins_expression(class) { Stop::TooMany } else { Stop::Refused } }
+        _ => {
+            if begins_expression(class) {
+                Stop::TooMany
+            } else {
+                Stop::Refused
+            }
+        }
     }
 }
 
@@ -265,7 +280,12 @@ pub(crate) fn negatable<F: Fn(&mut Tokens<'_>, &mut u32) -> Result<Boxed<Expr>, 
 }
 
 /// NULL or MISSING behind IS.
-fn is_what(alloc: Global, tokens: &mut Tokens<'_>, value: Boxed<Expr>, negated: bool) -> Result<Boxed<Expr>, Stop>
+fn is_what(
+    alloc: Global,
+    tokens: &mut Tokens<'_>,
+    value: Boxed<Expr>,
+    negated: bool,
+) -> Result<Boxed<Expr>, Stop>
     ensures { Gives (read_what value negated tokens.old.symbols) result tokens.new.symbols }
 {
     match tokens.class() {

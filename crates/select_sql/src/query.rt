@@ -111,7 +111,11 @@ fn select_list(
 
 /// WHERE and its condition, or nothing.
 #[tactic(auto, unfolding(sql_grammar::specs::QueryReaders::read_filter))]
-fn filter(alloc: Global, tokens: &mut Tokens<'_>, primaries: &mut u32) -> Result<Option<Boxed<Expr>>, Stop>
+fn filter(
+    alloc: Global,
+    tokens: &mut Tokens<'_>,
+    primaries: &mut u32,
+) -> Result<Option<Boxed<Expr>>, Stop>
     ensures { GivesCounted (read_filter primaries.old tokens.old.symbols) result primaries.new tokens.new.symbols }
 {
     if !sees(tokens, Class::Where) {

@@ -68,7 +68,12 @@ fn step(alloc: Global, tokens: &mut Tokens<'_>) -> Result<Step, Stop>
 }
 
 /// At most so many steps behind these.
-fn more_steps(alloc: Global, tokens: &mut Tokens<'_>, so_far: Items<Step>, most: u32) -> Result<Items<Step>, Stop>
+fn more_steps(
+    alloc: Global,
+    tokens: &mut Tokens<'_>,
+    so_far: Items<Step>,
+    most: u32,
+) -> Result<Items<Step>, Stop>
     ensures { (n : ℕ) → GivesCounted (read_given (λ rest. so_far ++ rest) (read_steps most) n tokens.old.symbols) result n tokens.new.symbols }
 {
     let mut all = so_far;

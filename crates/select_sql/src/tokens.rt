@@ -5,8 +5,8 @@ ghost use Rattle.sql_grammar.specs.Marks.{of, is_name, name, text, whole_of, dig
 ghost use Rattle.select_sql.specs.Parsing.{Gives, Expects, is_token, between, name_at, text_at, number_at, read_open};
 
 use crate::stop::Stop;
-use sql_grammar::Name;
 use sql_decimal::Num;
+use sql_grammar::Name;
 use sql_tokens::{Class, TextBuf, Tokens};
 use std::alloc::{AllocError, Global};
 

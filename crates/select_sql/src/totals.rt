@@ -52,7 +52,12 @@ fn agg_node(class: Class, value: Expr) -> Agg
 
 /// An aggregate of an expression.
 #[tactic(auto, unfolding(crate::specs::Parsing::read_aggregate_told, crate::specs::Parsing::read_in_brackets))]
-fn aggregate(alloc: Global, tokens: &mut Tokens<'_>, primaries: &mut u32, class: Class) -> Result<Agg, Stop>
+fn aggregate(
+    alloc: Global,
+    tokens: &mut Tokens<'_>,
+    primaries: &mut u32,
+    class: Class,
+) -> Result<Agg, Stop>
     requires { is_token class ≡ true }
     ensures { GivesCounted (read_aggregate_told class primaries.old tokens.old.symbols) result primaries.new tokens.new.symbols }
 {
@@ -178,7 +183,11 @@ fn next_total(
 }
 
 /// The aggregates.
-pub(crate) fn totals(alloc: Global, tokens: &mut Tokens<'_>, primaries: &mut u32) -> Result<Items<Total>, Stop>
+pub(crate) fn totals(
+    alloc: Global,
+    tokens: &mut Tokens<'_>,
+    primaries: &mut u32,
+) -> Result<Items<Total>, Stop>
     ensures { GivesCounted (read_totals primaries.old tokens.old.symbols) result primaries.new tokens.new.symbols }
 {
     let first = first_total(alloc, tokens, primaries)?;

@@ -32,9 +32,9 @@ returns-in-Err-clause-refused c =
     let r = c.requires.read in
     let reads : c.in-Err.reason ≢ stop.Memory → read_whole_query 4096 (symbols_of c.args.text.now) ≡ failed (fault_of c.in-Err.reason) c.args.tokens.now.symbols = rw c.in-Err.is at r.1 in
     λ fault q. stopped_fault c.args.text.now c.requires.cut c.in-Err.reason c.args.tokens.now.symbols c.stopped.result fault reads c.stopped.ensures q
+
 pub returns-else-is_at_end-clause-refused : goal.returns-else-is_at_end-clause-refused
 returns-else-is_at_end-clause-refused c =
     let r = c.requires.read in
     let h : read_whole_query 4096 (symbols_of c.args.text.now) ≡ found (written c.in-Ok.parts, r.0) c.args.tokens.now.symbols = rw c.in-Ok.is at r.1 in
     λ fault q. trailed c.args.text.now c.requires.cut (written c.in-Ok.parts) r.0 c.args.tokens.now.symbols h (sym c.is_at_end.ensures ∙ c.if-is_at_end.false) c.refusal.result c.refused_code.result c.place.result fault c.refusal.ensures c.refused_code.ensures c.place.ensures q
-
