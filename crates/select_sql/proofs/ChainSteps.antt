@@ -34,6 +34,14 @@ module _ (depth : ℕ) where
   unfolding prod_left read_prod
   prod_begin n ts a m left h = chain_begin prod_node (begins is_prod_op) (read_unary (room_of depth) (read_inside depth)) (read_prod_part (room_of depth) (read_inside depth)) n ts a m left h
 
+  pub prod_from : (n : ℕ) (ts : List Symbol) (a : Expr) (m : ℕ) (left : List Symbol) → (read_unary (room_of depth) (read_inside depth)) n ts ≡ found (a, m) left → read_prod (room_of depth) (read_inside depth) n ts ≡ read_links (prod_node a) (begins is_prod_op) (read_prod_part (room_of depth) (read_inside depth)) [] m left
+  unfolding read_prod
+  prod_from n ts a m left h = chain_begin prod_node (begins is_prod_op) (read_unary (room_of depth) (read_inside depth)) (read_prod_part (room_of depth) (read_inside depth)) n ts a m left h
+
+  pub prod_start : (first : Expr) (rest : List ProdPart) (n : ℕ) (ts : List Symbol) → rest ≡ [] → read_links (prod_node first) (begins is_prod_op) (read_prod_part (room_of depth) (read_inside depth)) [] n ts ≡ prod_left first rest n ts
+  unfolding prod_left
+  prod_start first rest n ts e = rw e refl
+
   pub prod_none : (n : ℕ) (ts : List Symbol) (j : Option Fault) (left : List Symbol) → (read_unary (room_of depth) (read_inside depth)) n ts ≡ failed j left → read_prod (room_of depth) (read_inside depth) n ts ≡ failed j left
   unfolding read_prod
   prod_none n ts j left h = chain_fail prod_node (begins is_prod_op) (read_unary (room_of depth) (read_inside depth)) (read_prod_part (room_of depth) (read_inside depth)) n ts j left h
@@ -67,6 +75,14 @@ module _ (depth : ℕ) where
   pub sum_begin : (n : ℕ) (ts : List Symbol) (a : Expr) (m : ℕ) (left : List Symbol) → (read_prod (room_of depth) (read_inside depth)) n ts ≡ found (a, m) left → read_sum (room_of depth) (read_inside depth) n ts ≡ sum_left a [] m left
   unfolding sum_left read_sum
   sum_begin n ts a m left h = chain_begin sum_node (begins is_sum_op) (read_prod (room_of depth) (read_inside depth)) (read_sum_part (room_of depth) (read_inside depth)) n ts a m left h
+
+  pub sum_from : (n : ℕ) (ts : List Symbol) (a : Expr) (m : ℕ) (left : List Symbol) → (read_prod (room_of depth) (read_inside depth)) n ts ≡ found (a, m) left → read_sum (room_of depth) (read_inside depth) n ts ≡ read_links (sum_node a) (begins is_sum_op) (read_sum_part (room_of depth) (read_inside depth)) [] m left
+  unfolding read_sum
+  sum_from n ts a m left h = chain_begin sum_node (begins is_sum_op) (read_prod (room_of depth) (read_inside depth)) (read_sum_part (room_of depth) (read_inside depth)) n ts a m left h
+
+  pub sum_start : (first : Expr) (rest : List SumPart) (n : ℕ) (ts : List Symbol) → rest ≡ [] → read_links (sum_node first) (begins is_sum_op) (read_sum_part (room_of depth) (read_inside depth)) [] n ts ≡ sum_left first rest n ts
+  unfolding sum_left
+  sum_start first rest n ts e = rw e refl
 
   pub sum_none : (n : ℕ) (ts : List Symbol) (j : Option Fault) (left : List Symbol) → (read_prod (room_of depth) (read_inside depth)) n ts ≡ failed j left → read_sum (room_of depth) (read_inside depth) n ts ≡ failed j left
   unfolding read_sum
@@ -102,6 +118,14 @@ module _ (depth : ℕ) where
   unfolding conjunction_left read_conjunction
   conjunction_begin n ts a m left h = chain_begin and_node (of k.And) (read_negation (room_of depth) (read_inside depth)) (read_counted_past (of k.And) (read_negation (room_of depth) (read_inside depth))) n ts a m left h
 
+  pub conjunction_from : (n : ℕ) (ts : List Symbol) (a : Expr) (m : ℕ) (left : List Symbol) → (read_negation (room_of depth) (read_inside depth)) n ts ≡ found (a, m) left → read_conjunction (room_of depth) (read_inside depth) n ts ≡ read_links (and_node a) (of k.And) (read_counted_past (of k.And) (read_negation (room_of depth) (read_inside depth))) [] m left
+  unfolding read_conjunction
+  conjunction_from n ts a m left h = chain_begin and_node (of k.And) (read_negation (room_of depth) (read_inside depth)) (read_counted_past (of k.And) (read_negation (room_of depth) (read_inside depth))) n ts a m left h
+
+  pub conjunction_start : (first : Expr) (rest : List Expr) (n : ℕ) (ts : List Symbol) → rest ≡ [] → read_links (and_node first) (of k.And) (read_counted_past (of k.And) (read_negation (room_of depth) (read_inside depth))) [] n ts ≡ conjunction_left first rest n ts
+  unfolding conjunction_left
+  conjunction_start first rest n ts e = rw e refl
+
   pub conjunction_none : (n : ℕ) (ts : List Symbol) (j : Option Fault) (left : List Symbol) → (read_negation (room_of depth) (read_inside depth)) n ts ≡ failed j left → read_conjunction (room_of depth) (read_inside depth) n ts ≡ failed j left
   unfolding read_conjunction
   conjunction_none n ts j left h = chain_fail and_node (of k.And) (read_negation (room_of depth) (read_inside depth)) (read_counted_past (of k.And) (read_negation (room_of depth) (read_inside depth))) n ts j left h
@@ -135,6 +159,14 @@ module _ (depth : ℕ) where
   pub disjunction_begin : (n : ℕ) (ts : List Symbol) (a : Expr) (m : ℕ) (left : List Symbol) → (read_conjunction (room_of depth) (read_inside depth)) n ts ≡ found (a, m) left → read_disjunction (room_of depth) (read_inside depth) n ts ≡ disjunction_left a [] m left
   unfolding disjunction_left read_disjunction
   disjunction_begin n ts a m left h = chain_begin or_node (of k.Or) (read_conjunction (room_of depth) (read_inside depth)) (read_counted_past (of k.Or) (read_conjunction (room_of depth) (read_inside depth))) n ts a m left h
+
+  pub disjunction_from : (n : ℕ) (ts : List Symbol) (a : Expr) (m : ℕ) (left : List Symbol) → (read_conjunction (room_of depth) (read_inside depth)) n ts ≡ found (a, m) left → read_disjunction (room_of depth) (read_inside depth) n ts ≡ read_links (or_node a) (of k.Or) (read_counted_past (of k.Or) (read_conjunction (room_of depth) (read_inside depth))) [] m left
+  unfolding read_disjunction
+  disjunction_from n ts a m left h = chain_begin or_node (of k.Or) (read_conjunction (room_of depth) (read_inside depth)) (read_counted_past (of k.Or) (read_conjunction (room_of depth) (read_inside depth))) n ts a m left h
+
+  pub disjunction_start : (first : Expr) (rest : List Expr) (n : ℕ) (ts : List Symbol) → rest ≡ [] → read_links (or_node first) (of k.Or) (read_counted_past (of k.Or) (read_conjunction (room_of depth) (read_inside depth))) [] n ts ≡ disjunction_left first rest n ts
+  unfolding disjunction_left
+  disjunction_start first rest n ts e = rw e refl
 
   pub disjunction_none : (n : ℕ) (ts : List Symbol) (j : Option Fault) (left : List Symbol) → (read_conjunction (room_of depth) (read_inside depth)) n ts ≡ failed j left → read_disjunction (room_of depth) (read_inside depth) n ts ≡ failed j left
   unfolding read_disjunction

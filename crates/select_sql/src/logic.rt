@@ -1,6 +1,6 @@
 //! NOT, AND and OR.
-ghost use Rattle.std.specs.Prelude.{◌≡◌, ℕ, ◌∷◌, IfOk};
-ghost use Rattle.grammar_rules.specs.CountedReaders.{read_counted_past};
+ghost use Rattle.std.specs.Prelude.{◌≡◌, ℕ, [], ◌∷◌, IfOk};
+ghost use Rattle.grammar_rules.specs.CountedReaders.{read_counted_past, read_links};
 ghost use Rattle.sql_tokens.specs.declared.class.Class.TheVariants as k;
 ghost use Rattle.sql_grammar.specs.Expressions.{room_of, and_node, or_node};
 ghost use Rattle.sql_grammar.specs.Marks.{of};
@@ -73,6 +73,25 @@ fn and_of(alloc: Global, first: Boxed<Expr>, rest: Items<Expr>) -> Result<Boxed<
     Boxed::new(alloc, Expr::And(all))
 }
 
+/// The rest of one, behind its first part.
+pub(crate) fn conjunction_rest<F: Fn(&mut Tokens<'_>, &mut u32) -> Result<Boxed<Expr>, Stop>>(
+    nest: &Nest<F>,
+    tokens: &mut Tokens<'_>,
+    primaries: &mut u32,
+    first: Boxed<Expr>,
+) -> Result<Boxed<Expr>, Stop>
+    requires callable { F.IsAlwaysCallable nest.now.expression }
+    requires reads { Reads (read_inside nest.now.depth) (F.post nest.now.expression) }
+    ensures { GivesCounted (read_links (and_node first) (of k.And) (read_counted_past (of k.And) (read_negation (room_of nest.now.depth) (read_inside nest.now.depth))) [] primaries.old tokens.old.symbols) result primaries.new tokens.new.symbols }
+{
+    let mut rest = Items::new(nest.alloc);
+    'parts: while sees(tokens, Class::And) {
+        let part = and_part(nest, tokens, primaries)?;
+        rest.push(part.into_inner())?;
+    }
+    Ok(and_of(nest.alloc, first, rest)?)
+}
+
 /// Conditions with AND between them.
 pub(crate) fn conjunction<F: Fn(&mut Tokens<'_>, &mut u32) -> Result<Boxed<Expr>, Stop>>(
     nest: &Nest<F>,
@@ -84,12 +103,7 @@ pub(crate) fn conjunction<F: Fn(&mut Tokens<'_>, &mut u32) -> Result<Boxed<Expr>
     ensures { GivesCounted (read_conjunction (room_of nest.now.depth) (read_inside nest.now.depth) primaries.old tokens.old.symbols) result primaries.new tokens.new.symbols }
 {
     let first = negation(nest, tokens, primaries)?;
-    let mut rest = Items::new(nest.alloc);
-    'parts: while sees(tokens, Class::And) {
-        let part = and_part(nest, tokens, primaries)?;
-        rest.push(part.into_inner())?;
-    }
-    Ok(and_of(nest.alloc, first, rest)?)
+    conjunction_rest(nest, tokens, primaries, first)
 }
 
 /// OR, and what stands behind it.
@@ -119,6 +133,25 @@ fn or_of(alloc: Global, first: Boxed<Expr>, rest: Items<Expr>) -> Result<Boxed<E
     Boxed::new(alloc, Expr::Or(all))
 }
 
+/// The rest of one, behind its first part.
+pub(crate) fn disjunction_rest<F: Fn(&mut Tokens<'_>, &mut u32) -> Result<Boxed<Expr>, Stop>>(
+    nest: &Nest<F>,
+    tokens: &mut Tokens<'_>,
+    primaries: &mut u32,
+    first: Boxed<Expr>,
+) -> Result<Boxed<Expr>, Stop>
+    requires callable { F.IsAlwaysCallable nest.now.expression }
+    requires reads { Reads (read_inside nest.now.depth) (F.post nest.now.expression) }
+    ensures { GivesCounted (read_links (or_node first) (of k.Or) (read_counted_past (of k.Or) (read_conjunction (room_of nest.now.depth) (read_inside nest.now.depth))) [] primaries.old tokens.old.symbols) result primaries.new tokens.new.symbols }
+{
+    let mut rest = Items::new(nest.alloc);
+    'parts: while sees(tokens, Class::Or) {
+        let part = or_part(nest, tokens, primaries)?;
+        rest.push(part.into_inner())?;
+    }
+    Ok(or_of(nest.alloc, first, rest)?)
+}
+
 /// Conditions with OR between them.
 pub(crate) fn disjunction<F: Fn(&mut Tokens<'_>, &mut u32) -> Result<Boxed<Expr>, Stop>>(
     nest: &Nest<F>,
@@ -130,10 +163,5 @@ pub(crate) fn disjunction<F: Fn(&mut Tokens<'_>, &mut u32) -> Result<Boxed<Expr>
     ensures { GivesCounted (read_disjunction (room_of nest.now.depth) (read_inside nest.now.depth) primaries.old tokens.old.symbols) result primaries.new tokens.new.symbols }
 {
     let first = conjunction(nest, tokens, primaries)?;
-    let mut rest = Items::new(nest.alloc);
-    'parts: while sees(tokens, Class::Or) {
-        let part = or_part(nest, tokens, primaries)?;
-        rest.push(part.into_inner())?;
-    }
-    Ok(or_of(nest.alloc, first, rest)?)
+    disjunction_rest(nest, tokens, primaries, first)
 }

@@ -1,7 +1,8 @@
 //! Signs, products and sums.
-ghost use Rattle.std.specs.Prelude.{◌≡◌, ℕ, IfOk};
+ghost use Rattle.std.specs.Prelude.{◌≡◌, ℕ, [], IfOk};
 ghost use Rattle.sql_grammar.specs.Expressions.{room_of, sum_node, prod_node};
-ghost use Rattle.sql_grammar.specs.Readers.{read_unary, read_prod_part, read_prod, read_sum_part, read_sum};
+ghost use Rattle.grammar_rules.specs.CountedReaders.{read_links};
+ghost use Rattle.sql_grammar.specs.Readers.{begins, is_prod_op, is_sum_op, read_unary, read_prod_part, read_prod, read_sum_part, read_sum};
 ghost use Rattle.select_sql.specs.Parsing.{GivesCounted, Reads, read_inside};
 
 use crate::classes::{is_prod_op, is_sum_op};
@@ -56,17 +57,32 @@ pub(crate) fn prod_part<F: Fn(&mut Tokens<'_>, &mut u32) -> Result<Boxed<Expr>, 
 
 /// The product of these.
 #[tactic(auto, using(crate::proofs::NodeSteps::prod_some))]
-fn prod_of(
-    alloc: Global,
-    first: Boxed<Expr>,
-    rest: Items<ProdPart>,
-) -> Result<Boxed<Expr>, AllocError>
+fn prod_of(alloc: Global, first: Boxed<Expr>, rest: Items<ProdPart>) -> Result<Boxed<Expr>, AllocError>
     ensures { IfOk result (λ made. made ≡ prod_node first rest) }
 {
     if rest.is_empty() {
         return Ok(first);
     }
     Boxed::new(alloc, Expr::Prod { first, rest })
+}
+
+/// The rest of one, behind its first part.
+pub(crate) fn prod_rest<F: Fn(&mut Tokens<'_>, &mut u32) -> Result<Boxed<Expr>, Stop>>(
+    nest: &Nest<F>,
+    tokens: &mut Tokens<'_>,
+    primaries: &mut u32,
+    first: Boxed<Expr>,
+) -> Result<Boxed<Expr>, Stop>
+    requires callable { F.IsAlwaysCallable nest.now.expression }
+    requires reads { Reads (read_inside nest.now.depth) (F.post nest.now.expression) }
+    ensures { GivesCounted (read_links (prod_node first) (begins is_prod_op) (read_prod_part (room_of nest.now.depth) (read_inside nest.now.depth)) [] primaries.old tokens.old.symbols) result primaries.new tokens.new.symbols }
+{
+    let mut rest = Items::new(nest.alloc);
+    'parts: while is_prod_op(tokens.class()) {
+        let part = prod_part(nest, tokens, primaries)?;
+        rest.push(part)?;
+    }
+    Ok(prod_of(nest.alloc, first, rest)?)
 }
 
 /// A product.
@@ -80,12 +96,7 @@ pub(crate) fn prod<F: Fn(&mut Tokens<'_>, &mut u32) -> Result<Boxed<Expr>, Stop>
     ensures { GivesCounted (read_prod (room_of nest.now.depth) (read_inside nest.now.depth) primaries.old tokens.old.symbols) result primaries.new tokens.new.symbols }
 {
     let first = unary(nest, tokens, primaries)?;
-    let mut rest = Items::new(nest.alloc);
-    'parts: while is_prod_op(tokens.class()) {
-        let part = prod_part(nest, tokens, primaries)?;
-        rest.push(part)?;
-    }
-    Ok(prod_of(nest.alloc, first, rest)?)
+    prod_rest(nest, tokens, primaries, first)
 }
 
 /// `+` or `-`, and what stands behind it.
@@ -109,17 +120,32 @@ pub(crate) fn sum_part<F: Fn(&mut Tokens<'_>, &mut u32) -> Result<Boxed<Expr>, S
 
 /// The sum of these.
 #[tactic(auto, using(crate::proofs::NodeSteps::sum_some))]
-fn sum_of(
-    alloc: Global,
-    first: Boxed<Expr>,
-    rest: Items<SumPart>,
-) -> Result<Boxed<Expr>, AllocError>
+fn sum_of(alloc: Global, first: Boxed<Expr>, rest: Items<SumPart>) -> Result<Boxed<Expr>, AllocError>
     ensures { IfOk result (λ made. made ≡ sum_node first rest) }
 {
     if rest.is_empty() {
         return Ok(first);
     }
     Boxed::new(alloc, Expr::Sum { first, rest })
+}
+
+/// The rest of one, behind its first part.
+pub(crate) fn sum_rest<F: Fn(&mut Tokens<'_>, &mut u32) -> Result<Boxed<Expr>, Stop>>(
+    nest: &Nest<F>,
+    tokens: &mut Tokens<'_>,
+    primaries: &mut u32,
+    first: Boxed<Expr>,
+) -> Result<Boxed<Expr>, Stop>
+    requires callable { F.IsAlwaysCallable nest.now.expression }
+    requires reads { Reads (read_inside nest.now.depth) (F.post nest.now.expression) }
+    ensures { GivesCounted (read_links (sum_node first) (begins is_sum_op) (read_sum_part (room_of nest.now.depth) (read_inside nest.now.depth)) [] primaries.old tokens.old.symbols) result primaries.new tokens.new.symbols }
+{
+    let mut rest = Items::new(nest.alloc);
+    'parts: while is_sum_op(tokens.class()) {
+        let part = sum_part(nest, tokens, primaries)?;
+        rest.push(part)?;
+    }
+    Ok(sum_of(nest.alloc, first, rest)?)
 }
 
 /// A sum.
@@ -133,10 +159,5 @@ pub(crate) fn sum<F: Fn(&mut Tokens<'_>, &mut u32) -> Result<Boxed<Expr>, Stop>>
     ensures { GivesCounted (read_sum (room_of nest.now.depth) (read_inside nest.now.depth) primaries.old tokens.old.symbols) result primaries.new tokens.new.symbols }
 {
     let first = prod(nest, tokens, primaries)?;
-    let mut rest = Items::new(nest.alloc);
-    'parts: while is_sum_op(tokens.class()) {
-        let part = sum_part(nest, tokens, primaries)?;
-        rest.push(part)?;
-    }
-    Ok(sum_of(nest.alloc, first, rest)?)
+    sum_rest(nest, tokens, primaries, first)
 }
