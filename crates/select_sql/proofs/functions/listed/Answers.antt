@@ -31,7 +31,7 @@ members-smaller g c = (member_less c.args.nest.now.depth) c.members.primaries c.
 
 pub members-preserved : goal.members-preserved
 members-preserved g c =
-    rw (c.into_inner-in-members.ensures, c.in_ok-push-2.ensures.ok)
+    rw (c.in_ok-push-2.ensures.ok, c.into_inner-in-members.ensures)
     (c.members.invariant ∙ listed_on (of k.Comma) (read_counted_past (of k.Comma) (read_inside c.args.nest.now.depth)) (member_less c.args.nest.now.depth) c.members.all c.members.primaries c.members.tokens.symbols c.in_ok-member.member c.behind.new.primaries c.behind.new.tokens.symbols (sym c.sees.ensures ∙ c.members-test.true) c.in_ok-member.ensures)
 
 pub returns : goal.returns

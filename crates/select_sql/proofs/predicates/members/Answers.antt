@@ -31,7 +31,7 @@ members-smaller g c = (limited_less c.args.nest.now.depth (room_of c.args.nest.n
 
 pub members-preserved : goal.members-preserved
 members-preserved g c =
-    rw (c.into_inner-in-members.ensures, c.in_ok-push-2.ensures.ok)
+    rw (c.in_ok-push-2.ensures.ok, c.into_inner-in-members.ensures)
     (c.members.invariant ∙ limited_on (of k.Comma) (read_counted_past (of k.Comma) (read_item (λ s. over_class (room_of c.args.nest.now.depth).deeper (class s)) (read_inside c.args.nest.now.depth))) (limited_less c.args.nest.now.depth (room_of c.args.nest.now.depth).deeper) c.members.all c.members.left c.members.primaries c.members.tokens.symbols c.in_ok-next.next c.next_member.new.left c.next_member.new.primaries c.next_member.new.tokens.symbols (sym c.sees.ensures ∙ c.members-test.true) c.in_ok-next.ensures)
 
 pub returns : goal.returns

@@ -18,7 +18,7 @@ returns-then-sees g c =
 pub returns-then-begins_negatable : goal.returns-then-begins_negatable
 returns-then-begins_negatable g c =
     let d = c.args.nest.now.depth in
-    rw (tail_negatable (room_of d) (read_inside d) c.args.value c.args.primaries.now c.args.tokens.now.symbols (rw (← c.class.ensures) (sym c.is_compare_op.ensures ∙ c.if-is_compare_op.false)) (sym c.sees.ensures ∙ c.if-sees.false) (rw (← c.class-2.ensures) (sym c.begins_negatable.ensures ∙ c.if-begins_negatable.true))) c.negatable.ensures
+    rw (tail_negatable (room_of d) (read_inside d) c.args.value c.args.primaries.now c.args.tokens.now.symbols (rw (← c.class.ensures) (sym c.is_compare_op.ensures ∙ c.if-is_compare_op.false)) (sym c.sees.ensures ∙ c.if-sees.false) (rw (← c.class-2.ensures) (sym c.begins_negatable.ensures ∙ c.if-begins_negatable.true))) c.negatable-then-begins_negatable.ensures
 
 pub returns : goal.returns
 returns g c =
