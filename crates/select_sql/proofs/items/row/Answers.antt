@@ -13,4 +13,4 @@ returns-in_err-name c =
 pub returns : goal.returns
 returns c =
     let m = c.expression.new.primaries in
-    row_named c.args.primaries.now c.args.tokens.now.symbols c.in_ok-expr.expr m c.expression.new.tokens.symbols c.in_ok-expr.ensures c.in_ok-name.name c.as_name.new.tokens.symbols (c.in_ok-name.ensures m)
+    rw c.into_inner.ensures (row_named c.args.primaries.now c.args.tokens.now.symbols c.in_ok-expr.expr m c.expression.new.tokens.symbols c.in_ok-expr.ensures c.in_ok-name.name c.as_name.new.tokens.symbols (c.in_ok-name.ensures m))
