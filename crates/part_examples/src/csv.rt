@@ -86,7 +86,12 @@ const ROWS: &[Row] = &[
 ];
 
 /// The fields of a line between bars.
-fn fields_of(alloc: Global, dialect: &Dialect, line: &[u8], spans: &mut Spans) -> Result<String, Fail> {
+fn fields_of(
+    alloc: Global,
+    dialect: &Dialect,
+    line: &[u8],
+    spans: &mut Spans,
+) -> Result<String, Fail> {
     let mut text = String::new(alloc);
     if !dialect.is_valid() || line.len() > 200_000 {
         return Ok(text);
@@ -182,16 +187,41 @@ type Object = (&'static Dialect, &'static [u8], usize, &'static str);
 
 const OBJECTS: &[Object] = &[
     (&DOUBLED, b"a,b\nc\n", 64, "0+4=a,b 4+2=c . "),
-    (&DOUBLED, b"\"a\n\",\"b\"\nc", 64, "0+9=\"a\n\",\"b\" 9+1=c . "),
+    (
+        &DOUBLED,
+        b"\"a\n\",\"b\"\nc",
+        64,
+        "0+9=\"a\n\",\"b\" 9+1=c . ",
+    ),
     (&DOUBLED, b"#x\"\na\n\"b", 64, "0+4=#x\" 4+2=a 6+2=\"b . "),
     (&DOUBLED, b"a\"\nb\n", 64, "0+3=a\" 3+2=b . "),
-    (&DOUBLED, b"\xef\xbb\xbf\"a\nb\"\nc", 64, "0+9=\"a\nb\" 9+1=c . "),
+    (
+        &DOUBLED,
+        b"\xef\xbb\xbf\"a\nb\"\nc",
+        64,
+        "0+9=\"a\nb\" 9+1=c . ",
+    ),
     (&DOUBLED, b"\xef\xbb\xbf#\"\nb", 64, "0+6=#\" 6+1=b . "),
     (&DOUBLED, b"\n\n\"\n\"\n", 64, "0+1= 1+1= 2+4=\"\n\" . "),
     (&DOUBLED, b"\"a\"\"\n\"\nb", 64, "0+7=\"a\"\"\n\" 7+1=b . "),
-    (&DOUBLED, b"\"a\"\nb\"\n\"c", 64, "0+4=\"a\" 4+3=b\" 7+2=\"c . "),
-    (&TWO_BYTES, b"a,'b\r\n'\r\nc\rd\n\r\n'\\'\r\n'", 64, "0+9=a,'b\r\n' 9+6=c\rd\n 15+6='\\'\r\n' . "),
-    (&DOUBLED, b"\"abc\n def\",x\nab\n\"abcdefgh\n", 6, "0! 13+3=ab 16! . "),
+    (
+        &DOUBLED,
+        b"\"a\"\nb\"\n\"c",
+        64,
+        "0+4=\"a\" 4+3=b\" 7+2=\"c . ",
+    ),
+    (
+        &TWO_BYTES,
+        b"a,'b\r\n'\r\nc\rd\n\r\n'\\'\r\n'",
+        64,
+        "0+9=a,'b\r\n' 9+6=c\rd\n 15+6='\\'\r\n' . ",
+    ),
+    (
+        &DOUBLED,
+        b"\"abc\n def\",x\nab\n\"abcdefgh\n",
+        6,
+        "0! 13+3=ab 16! . ",
+    ),
 ];
 
 /// The answers about an object, from a store whose reads hand out so many bytes.
@@ -210,7 +240,14 @@ fn records(alloc: Global, row: &Object, length: usize) -> Result<String, Fail>
         return Ok(text);
     };
     if size > 0 {
-        window.seek(&mut store, size, Range { first: 0, last: size - 1 })?;
+        window.seek(
+            &mut store,
+            size,
+            Range {
+                first: 0,
+                last: size - 1,
+            },
+        )?;
         let mut cutter = QuotedRecords::begin(*dialect, limits);
         answers(&mut window, &mut store, &mut cutter, &mut text)?;
     }
@@ -234,9 +271,15 @@ fn fields_are_told(rt: HostRuntime) -> Result<(), Fail> {
     let mut spans = Spans::make(alloc)?;
     let commas = vec![in alloc; b','; 65_535]?;
     let more = vec![in alloc; b','; 65_536]?;
-    assert_eq!(rt; fields_of(alloc, &DOUBLED, &more, &mut spans)?.as_str(), "many");
+    assert_eq!(rt;
+        fields_of(alloc, &DOUBLED, &more, &mut spans)?.as_str(),
+        "many"
+    );
     assert_eq!(rt; fields_of(alloc, &DOUBLED, &commas, &mut spans)?.len(), 99);
-    assert_eq!(rt; fields_of(alloc, &DOUBLED, b"a,\xff", &mut spans)?.as_str(), "encoding");
+    assert_eq!(rt;
+        fields_of(alloc, &DOUBLED, b"a,\xff", &mut spans)?.as_str(),
+        "encoding"
+    );
     assert!(rt; DOUBLED.is_valid());
     let line = b"ab,\"cd\",\"e\"\"\"";
     match Fields::of(&DOUBLED, line, &mut spans) {

@@ -1,8 +1,10 @@
 -- Items, aggregates and steps, as the parser reads them.
-use Rattle.std.proofs.Common.{◌≡◌, ℕ, ◌-◌, ◌<◌, nat_lt, ◌||◌, is_some, Bool, true, false, List, [], ◌∷◌, ◌++◌, length, drop, Some, None, Option, refl, sym, ap, ◌∙◌, append_assoc, append-nil}
+use Rattle.std.proofs.Common.{◌≡◌, ℕ, ◌-◌, ◌<◌, nat_lt, ◌||◌, not, is_some, Bool, true, false, List, [], ◌∷◌, ◌++◌, length, drop, Some, None, Option, refl, sym, ap, ◌∙◌, append_assoc, append-nil}
 use Rattle.sql_tokens.specs.declared.class.Class.{Class}
 use Rattle.sql_tokens.specs.declared.class.Class.TheVariants as k
-use Rattle.sql_tokens.specs.Classes.{same_class}
+use Rattle.std.specs.List.{list_all}
+use Rattle.sql_tokens.specs.Classes.{same_class, all_classes}
+use Rattle.sql_tokens.proofs.ClassLaws.{every}
 use Rattle.sql_tokens.specs.Cutting.{Symbol, first_class}
 use Rattle.sql_grammar.specs.declared.tree.Expr.{Expr}
 use Rattle.sql_grammar.specs.declared.tree.Name.{Name}
@@ -21,7 +23,7 @@ use Rattle.grammar_rules.proofs.CountedMany.{CountedShrinks, counted_shrinks, re
 use Rattle.sql_grammar.specs.Forms.{read_form}
 use Rattle.sql_grammar.specs.Marks.{Fault, too_many, of, class, begins_expression}
 use Rattle.sql_grammar.specs.Expressions.{over_class}
-use Rattle.sql_grammar.specs.Queries.{AggForm, agg_form, mixed_class, over_total, over_step, row, source_step, later_total}
+use Rattle.sql_grammar.specs.Queries.{AggForm, count_form, sum_form, min_form, max_form, avg_form, agg_form, mixed_class, over_total, over_step, row, source_step, later_total}
 use Rattle.sql_grammar.specs.Readers.{Reader, begins, is_step, read_enclosed, read_expression}
 use Rattle.sql_grammar.specs.QueryReaders.{read_as_name, read_row, read_aggregate, read_counted, read_count, read_agg_of, read_any_agg, read_later_agg, read_total, read_first_total, read_later_total, is_agg, read_step, read_steps}
 use Rattle.sql_grammar.proofs.Combining.{on, is, one, seen}
@@ -63,39 +65,149 @@ module _ (n : ℕ) (ts : List Symbol) where
       by_test true = enclosed_is true (read_given (agg_node c) (read_expression 63)) n (drop 1 ts)
       by_test false = refl
 
-pub any_count : (n : ℕ) (ts : List Symbol) → k.CountCalled ≡ first_class ts → read_any_agg n ts ≡ read_count_told n ts
-unfolding read_any_agg same_class
-any_count n [] q = absurd (not_false (ap (same_class k.CountCalled) q))
-any_count n (s ∷ ts) q = rw (← q) (count_is n (s ∷ ts))
+-- the form is this one
+is_form : AggForm → Option AggForm → Bool
+is_form form None = false
+is_form count_form (Some count_form) = true
+is_form sum_form (Some sum_form) = true
+is_form min_form (Some min_form) = true
+is_form max_form (Some max_form) = true
+is_form avg_form (Some avg_form) = true
+is_form _ (Some _) = false
 
-pub any_sum : (n : ℕ) (ts : List Symbol) → k.SumCalled ≡ first_class ts → read_any_agg n ts ≡ read_aggregate_told k.SumCalled n ts
-unfolding read_any_agg same_class
-any_sum n [] q = absurd (not_false (ap (same_class k.SumCalled) q))
-any_sum n (s ∷ ts) q = rw (← q) (aggregate_is n (s ∷ ts) k.SumCalled)
+form_is : (form : AggForm) (o : Option AggForm) → is_form form o ≡ true → o ≡ Some form
+form_is form None h = absurd cc
+form_is count_form (Some count_form) h = refl
+form_is sum_form (Some sum_form) h = refl
+form_is min_form (Some min_form) h = refl
+form_is max_form (Some max_form) h = refl
+form_is avg_form (Some avg_form) h = refl
+form_is count_form (Some sum_form) h = absurd cc
+form_is count_form (Some min_form) h = absurd cc
+form_is count_form (Some max_form) h = absurd cc
+form_is count_form (Some avg_form) h = absurd cc
+form_is sum_form (Some count_form) h = absurd cc
+form_is sum_form (Some min_form) h = absurd cc
+form_is sum_form (Some max_form) h = absurd cc
+form_is sum_form (Some avg_form) h = absurd cc
+form_is min_form (Some count_form) h = absurd cc
+form_is min_form (Some sum_form) h = absurd cc
+form_is min_form (Some max_form) h = absurd cc
+form_is min_form (Some avg_form) h = absurd cc
+form_is max_form (Some count_form) h = absurd cc
+form_is max_form (Some sum_form) h = absurd cc
+form_is max_form (Some min_form) h = absurd cc
+form_is max_form (Some avg_form) h = absurd cc
+form_is avg_form (Some count_form) h = absurd cc
+form_is avg_form (Some sum_form) h = absurd cc
+form_is avg_form (Some min_form) h = absurd cc
+form_is avg_form (Some max_form) h = absurd cc
 
-pub any_min : (n : ℕ) (ts : List Symbol) → k.MinCalled ≡ first_class ts → read_any_agg n ts ≡ read_aggregate_told k.MinCalled n ts
-unfolding read_any_agg same_class
-any_min n [] q = absurd (not_false (ap (same_class k.MinCalled) q))
-any_min n (s ∷ ts) q = rw (← q) (aggregate_is n (s ∷ ts) k.MinCalled)
+same_form : (form : AggForm) → is_form form (Some form) ≡ true
+same_form count_form = refl
+same_form sum_form = refl
+same_form min_form = refl
+same_form max_form = refl
+same_form avg_form = refl
 
-pub any_max : (n : ℕ) (ts : List Symbol) → k.MaxCalled ≡ first_class ts → read_any_agg n ts ≡ read_aggregate_told k.MaxCalled n ts
-unfolding read_any_agg same_class
-any_max n [] q = absurd (not_false (ap (same_class k.MaxCalled) q))
-any_max n (s ∷ ts) q = rw (← q) (aggregate_is n (s ∷ ts) k.MaxCalled)
+-- what a test of all classes says of one
+implied : (a b : Bool) → (not a || b) ≡ true → a ≡ true → b ≡ true
+implied true b h q = h
+implied false b h q = absurd cc
 
-pub any_avg : (n : ℕ) (ts : List Symbol) → k.AvgCalled ≡ first_class ts → read_any_agg n ts ≡ read_aggregate_told k.AvgCalled n ts
-unfolding read_any_agg same_class
-any_avg n [] q = absurd (not_false (ap (same_class k.AvgCalled) q))
-any_avg n (s ∷ ts) q = rw (← q) (aggregate_is n (s ∷ ts) k.AvgCalled)
+-- a class of this form is that class
+not_here : (c : Class) (form : AggForm) → list_all (λ d. not (is_form form (agg_form d)) || same_class c d) all_classes ≡ true
+    → (d : Class) → agg_form d ≡ Some form → same_class c d ≡ false → ⊥
+not_here c form all d h other =
+    let p : same_class c d ≡ true = implied (is_form form (agg_form d)) (same_class c d) (every (λ x. not (is_form form (agg_form x)) || same_class c x) all d) (ap (is_form form) h ∙ same_form form) in
+    let q : true ≡ false = sym p ∙ other in cc
 
-pub any_none : (n : ℕ) (ts : List Symbol) → is_agg (first_class ts) ≡ false → read_any_agg n ts ≡ failed None ts
+-- the token in front begins the aggregate of this class
+any_of : (c : Class) (form : AggForm) → list_all (λ d. not (same_class c d) || is_form form (agg_form d)) all_classes ≡ true
+    → (s : Symbol) → same_class c (class s) ≡ true → agg_form (class s) ≡ Some form
+any_of c form all s h = form_is form (agg_form (class s)) (implied (same_class c (class s)) (is_form form (agg_form (class s))) (every (λ d. not (same_class c d) || is_form form (agg_form d)) all (class s)) h)
+
+any_by : (n : ℕ) (s : Symbol) (ts : List Symbol) (form : AggForm) → agg_form (class s) ≡ Some form → read_any_agg n (s ∷ ts) ≡ read_agg_of form n (s ∷ ts)
 unfolding read_any_agg
-any_none n [] h = refl
-any_none n (s ∷ ts) h = none_of (agg_form (class s)) h
+any_by n s ts form h = rw h refl
+
+any_none : (n : ℕ) (s : Symbol) (ts : List Symbol) → agg_form (class s) ≡ None → read_any_agg n (s ∷ ts) ≡ failed None (s ∷ ts)
+unfolding read_any_agg
+any_none n s ts h = rw h refl
+
+pub any_count : (n : ℕ) (ts : List Symbol) → starts (of k.CountCalled) ts ≡ true → read_any_agg n ts ≡ read_count_told n ts
+any_count n [] q = absurd cc
+any_count n (s ∷ ts) q = any_by n s ts count_form (any_of k.CountCalled count_form counts s q) ∙ count_is n (s ∷ ts)
   where
-    none_of : (o : Option AggForm) → is_some o ≡ false → read_form (λ form. read_agg_of form n) o (s ∷ ts) ≡ failed None (s ∷ ts)
-    none_of None h = refl
-    none_of (Some form) h = let p : true ≡ false = h in cc
+    counts : list_all (λ d. not (same_class k.CountCalled d) || is_form count_form (agg_form d)) all_classes ≡ true
+    unfolding same_class
+    counts = refl
+
+pub any_sum : (n : ℕ) (ts : List Symbol) → starts (of k.SumCalled) ts ≡ true → read_any_agg n ts ≡ read_aggregate_told k.SumCalled n ts
+any_sum n [] q = absurd cc
+any_sum n (s ∷ ts) q = any_by n s ts sum_form (any_of k.SumCalled sum_form sums s q) ∙ aggregate_is n (s ∷ ts) k.SumCalled
+  where
+    sums : list_all (λ d. not (same_class k.SumCalled d) || is_form sum_form (agg_form d)) all_classes ≡ true
+    unfolding same_class
+    sums = refl
+
+pub any_min : (n : ℕ) (ts : List Symbol) → starts (of k.MinCalled) ts ≡ true → read_any_agg n ts ≡ read_aggregate_told k.MinCalled n ts
+any_min n [] q = absurd cc
+any_min n (s ∷ ts) q = any_by n s ts min_form (any_of k.MinCalled min_form mins s q) ∙ aggregate_is n (s ∷ ts) k.MinCalled
+  where
+    mins : list_all (λ d. not (same_class k.MinCalled d) || is_form min_form (agg_form d)) all_classes ≡ true
+    unfolding same_class
+    mins = refl
+
+pub any_max : (n : ℕ) (ts : List Symbol) → starts (of k.MaxCalled) ts ≡ true → read_any_agg n ts ≡ read_aggregate_told k.MaxCalled n ts
+any_max n [] q = absurd cc
+any_max n (s ∷ ts) q = any_by n s ts max_form (any_of k.MaxCalled max_form maxes s q) ∙ aggregate_is n (s ∷ ts) k.MaxCalled
+  where
+    maxes : list_all (λ d. not (same_class k.MaxCalled d) || is_form max_form (agg_form d)) all_classes ≡ true
+    unfolding same_class
+    maxes = refl
+
+-- none of the first four, so the last one or none
+any_last : (n : ℕ) (s : Symbol) (ts : List Symbol) (o : Option AggForm) → agg_form (class s) ≡ o
+    → same_class k.CountCalled (class s) ≡ false → same_class k.SumCalled (class s) ≡ false → same_class k.MinCalled (class s) ≡ false → same_class k.MaxCalled (class s) ≡ false
+    → read_any_agg n (s ∷ ts) ≡ read_aggregate_told k.AvgCalled n (s ∷ ts)
+any_last n s ts None h p q r t = any_none n s ts h ∙ sym (told_none (same_class k.AvgCalled (class s)) refl)
+  where
+    avgs : list_all (λ d. not (same_class k.AvgCalled d) || is_form avg_form (agg_form d)) all_classes ≡ true
+    unfolding same_class
+    avgs = refl
+
+    told_none : (b : Bool) → same_class k.AvgCalled (class s) ≡ b → read_aggregate_told k.AvgCalled n (s ∷ ts) ≡ failed None (s ∷ ts)
+    unfolding read_aggregate_told
+    told_none true e = absurd (let o : None ≡ Some avg_form = sym h ∙ any_of k.AvgCalled avg_form avgs s e in cc)
+    told_none false e = rw e refl
+any_last n s ts (Some avg_form) h p q r t = any_by n s ts avg_form h ∙ aggregate_is n (s ∷ ts) k.AvgCalled
+any_last n s ts (Some count_form) h p q r t = absurd (not_here k.CountCalled count_form all (class s) h p)
+  where
+    all : list_all (λ d. not (is_form count_form (agg_form d)) || same_class k.CountCalled d) all_classes ≡ true
+    unfolding same_class
+    all = refl
+any_last n s ts (Some sum_form) h p q r t = absurd (not_here k.SumCalled sum_form all (class s) h q)
+  where
+    all : list_all (λ d. not (is_form sum_form (agg_form d)) || same_class k.SumCalled d) all_classes ≡ true
+    unfolding same_class
+    all = refl
+any_last n s ts (Some min_form) h p q r t = absurd (not_here k.MinCalled min_form all (class s) h r)
+  where
+    all : list_all (λ d. not (is_form min_form (agg_form d)) || same_class k.MinCalled d) all_classes ≡ true
+    unfolding same_class
+    all = refl
+any_last n s ts (Some max_form) h p q r t = absurd (not_here k.MaxCalled max_form all (class s) h t)
+  where
+    all : list_all (λ d. not (is_form max_form (agg_form d)) || same_class k.MaxCalled d) all_classes ≡ true
+    unfolding same_class
+    all = refl
+
+pub any_avg : (n : ℕ) (ts : List Symbol) → starts (of k.CountCalled) ts ≡ false → starts (of k.SumCalled) ts ≡ false → starts (of k.MinCalled) ts ≡ false → starts (of k.MaxCalled) ts ≡ false
+    → read_any_agg n ts ≡ read_aggregate_told k.AvgCalled n ts
+unfolding read_any_agg read_aggregate_told
+any_avg n [] p q r t = refl
+any_avg n (s ∷ ts) p q r t = any_last n s ts (agg_form (class s)) refl p q r t
 
 -- a token with a fault of its own
 pub over_first : {A : Type 0} (over : Class → Option Fault) → over k.NoToken ≡ None → (ts : List Symbol) (j : Option Fault) → j ≡ over (first_class ts) → read_terminal {A = A} (λ s. told (over (class s))) ts ≡ failed j ts

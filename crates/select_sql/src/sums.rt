@@ -57,7 +57,11 @@ pub(crate) fn prod_part<F: Fn(&mut Tokens<'_>, &mut u32) -> Result<Boxed<Expr>, 
 
 /// The product of these.
 #[tactic(auto, using(crate::proofs::NodeSteps::prod_some))]
-fn prod_of(alloc: Global, first: Boxed<Expr>, rest: Items<ProdPart>) -> Result<Boxed<Expr>, AllocError>
+fn prod_of(
+    alloc: Global,
+    first: Boxed<Expr>,
+    rest: Items<ProdPart>,
+) -> Result<Boxed<Expr>, AllocError>
     ensures { IfOk result (λ made. made ≡ prod_node first rest) }
 {
     if rest.is_empty() {
@@ -120,7 +124,11 @@ pub(crate) fn sum_part<F: Fn(&mut Tokens<'_>, &mut u32) -> Result<Boxed<Expr>, S
 
 /// The sum of these.
 #[tactic(auto, using(crate::proofs::NodeSteps::sum_some))]
-fn sum_of(alloc: Global, first: Boxed<Expr>, rest: Items<SumPart>) -> Result<Boxed<Expr>, AllocError>
+fn sum_of(
+    alloc: Global,
+    first: Boxed<Expr>,
+    rest: Items<SumPart>,
+) -> Result<Boxed<Expr>, AllocError>
     ensures { IfOk result (λ made. made ≡ sum_node first rest) }
 {
     if rest.is_empty() {

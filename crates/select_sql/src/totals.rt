@@ -97,15 +97,19 @@ fn count(alloc: Global, tokens: &mut Tokens<'_>, primaries: &mut u32) -> Result<
 fn any_agg(alloc: Global, tokens: &mut Tokens<'_>, primaries: &mut u32) -> Result<Agg, Stop>
     ensures { GivesCounted (read_any_agg primaries.old tokens.old.symbols) result primaries.new tokens.new.symbols }
 {
-    let class = tokens.class();
-    match class {
-        Class::CountCalled => count(alloc, tokens, primaries),
-        Class::SumCalled => aggregate(alloc, tokens, primaries, Class::SumCalled),
-        Class::MinCalled => aggregate(alloc, tokens, primaries, Class::MinCalled),
-        Class::MaxCalled => aggregate(alloc, tokens, primaries, Class::MaxCalled),
-        Class::AvgCalled => aggregate(alloc, tokens, primaries, Class::AvgCalled),
-        _ => Err(Stop::Refused),
+    if sees(tokens, Class::CountCalled) {
+        return count(alloc, tokens, primaries);
     }
+    if sees(tokens, Class::SumCalled) {
+        return aggregate(alloc, tokens, primaries, Class::SumCalled);
+    }
+    if sees(tokens, Class::MinCalled) {
+        return aggregate(alloc, tokens, primaries, Class::MinCalled);
+    }
+    if sees(tokens, Class::MaxCalled) {
+        return aggregate(alloc, tokens, primaries, Class::MaxCalled);
+    }
+    aggregate(alloc, tokens, primaries, Class::AvgCalled)
 }
 
 /// Why a token of this class begins no aggregate.
@@ -115,13 +119,16 @@ fn mixed(class: Class) -> Stop
     if is_unknown_call(class) {
         return Stop::UnknownFunction;
     }
-    if class.is(Class::ExponentNumber) {
-        return Stop::UnsupportedType;
+    match class {
+        Class::ExponentNumber => Stop::UnsupportedType,
+        _ => {
+            if begins_expression(class) {
+                Stop::AggregateMixed
+            } else {
+                Stop::Refused
+            }
+        }
     }
-    if begins_expression(class) {
-        return Stop::AggregateMixed;
-    }
-    Stop::Refused
 }
 
 /// An aggregate behind another one.
