@@ -9,6 +9,8 @@ mod json;
 #[cfg(test)]
 mod printed_queries;
 #[cfg(test)]
+mod queries;
+#[cfg(test)]
 mod timestamps;
 #[cfg(test)]
 mod value_texts;
