@@ -1,1 +1,7 @@
 pub mod Telling
+pub mod Words
+pub mod Quotes
+pub mod Names
+pub mod Again
+pub mod Levels
+pub mod Folds

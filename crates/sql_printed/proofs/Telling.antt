@@ -1,5 +1,5 @@
 -- What a rule spells is spelled again by its text, with no more primaries and no more depth: one law a combinator.
-use Rattle.std.proofs.Common.{◌≡◌, ℕ, zero, suc, ◌+◌, ◌-◌, ◌≤◌, ◌==◌, ◌||◌, ◌&&◌, not, nat_lt, Bool, true, false, List, [], ◌∷◌, ◌++◌, Option, Some, None, refl, sym, ap, ◌∙◌, subst, append_assoc, arith}
+use Rattle.std.proofs.Common.{if◌then◌else◌, ◌≡◌, ℕ, zero, suc, ◌+◌, ◌-◌, ◌≤◌, ◌==◌, ◌||◌, ◌&&◌, not, nat_lt, Bool, true, false, List, [], ◌∷◌, ◌++◌, Option, Some, None, refl, sym, ap, ◌∙◌, subst, append_assoc, arith}
 use Rattle.std.proofs.lemmas.Bool.Decides.{nat_tests}
 use Rattle.std.proofs.lemmas.List.{append-nil}
 use Rattle.sql_tokens.specs.TokenForms.{Token, is_called}
@@ -32,7 +32,7 @@ starts-nothing rest c = c
 pub starts-append : (a b : List ℕ) → Starts a → Starts b → Starts (a ++ b)
 starts-append a b f g rest c = let e : (a ++ b) ++ rest ≡ a ++ (b ++ rest) = append_assoc a b rest in rw e (f (b ++ rest) (g rest c))
 
-pub starts-all : {A : Type 0} (print : A → List ℕ) → ((a : A) → Starts (print a)) → (as : List A) → Starts (print_all print as)
+pub starts-all : {A : Type 0} (print : A → List ℕ) → ((a : A) → Starts (print a)) → (xs : List A) → Starts (print_all print xs)
 starts-all print s [] = starts-nothing
 starts-all print s (a ∷ rest) = starts-append (print a) (print_all print rest) (s a) (starts-all print s rest)
 
@@ -139,14 +139,14 @@ module _ {A B : Type 0} (G : ℕ → Counting A) (H : ℕ → Counting B) (d : �
         (cuts-into (H e (h.used + k)) (made (λ q. ((a, q.0), q.1)) (H e (h.used + k))) (b, k) ((a, b), k) more rest first.next (λ ts w. ((b, k), refl, w)) second));
   }
 
-  -- for what a function makes of the value
-  pub told-given : (f : A → B) (n m : ℕ) (a : A) (text : List ℕ) → Told G d n m a text → Told (λ e. given f (G e)) d n m (f a) text
-  told-given f n m a text g = record {
-    used = g.used;
-    within = g.within;
-    prints = λ e below k at rest c.
-        cuts-into (G e (g.used + k)) (given f (G e) (g.used + k)) (a, k) (f a, k) text rest at (λ ts w. ((a, k), refl, w)) (g.prints e below k at rest c);
-  }
+-- for what a function makes of the value
+pub told-given : {A B : Type 0} (G : ℕ → Counting A) (d : ℕ) (f : A → B) (n m : ℕ) (a : A) (text : List ℕ) → Told G d n m a text → Told (λ e. given f (G e)) d n m (f a) text
+told-given G d f n m a text g = record {
+  used = g.used;
+  within = g.within;
+  prints = λ e below k at rest c.
+      cuts-into (G e (g.used + k)) (given f (G e) (g.used + k)) (a, k) (f a, k) text rest at (λ ts w. ((a, k), refl, w)) (g.prints e below k at rest c);
+}
 
 module _ {A : Type 0} (G : ℕ → Counting A) (d n m : ℕ) (a : A) (text : List ℕ) (g : Told G d n m a text) where
   -- with the same text for another rule
@@ -222,14 +222,14 @@ module _ {A : Type 0} (G : ℕ → Counting A) (d : ℕ) (print : A → List ℕ
         rw z (cuts-nothing (many_from (G e) k) ([], k) rest at (spelled-many_from_nil (G e) k));
   }
 
-  pub told-cons : (n m l : ℕ) (a : A) (as : List A) → Told G d n m a (print a) → Told (λ e. many_from (G e)) d m l as (print_all print as) → Told (λ e. many_from (G e)) d n l (a ∷ as) (print a ++ print_all print as)
-  told-cons n m l a as g h = record {
+  pub told-cons : (n m l : ℕ) (a : A) (xs : List A) → Told G d n m a (print a) → Told (λ e. many_from (G e)) d m l xs (print_all print xs) → Told (λ e. many_from (G e)) d n l (a ∷ xs) (print a ++ print_all print xs)
+  told-cons n m l a xs g h = record {
     used = g.used + h.used;
     within = let p = g.within in let q = h.within in omega arith;
     prints = λ e below k at rest c.
         let sum : g.used + h.used + k ≡ g.used + (h.used + k) = omega arith in
-        let more = print_all print as in
-        let first = g.prints e below (h.used + k) at (more ++ rest) (starts-all print starts as rest c) in
+        let more = print_all print xs in
+        let first = g.prints e below (h.used + k) at (more ++ rest) (starts-all print starts xs rest c) in
         let second = h.prints e below k first.next rest c in
         rw sum (record {
           symbols = first.symbols ++ second.symbols;
@@ -237,7 +237,7 @@ module _ {A : Type 0} (G : ℕ → Counting A) (d : ℕ) (print : A → List ℕ
           is =
               let f : (print a ++ more) ++ rest ≡ print a ++ (more ++ rest) = append_assoc (print a) more rest in
               rw f (first.is ∙ ap (λ l. first.symbols ++ l) second.is ∙ sym (append_assoc first.symbols second.symbols (cut second.next rest)));
-          spelled = spelled-many_from_cons (G e) (g.used + (h.used + k)) (h.used + k) k a as first.symbols second.symbols first.spelled second.spelled;
+          spelled = spelled-many_from_cons (G e) (g.used + (h.used + k)) (h.used + k) k a xs first.symbols second.symbols first.spelled second.spelled;
           fit = fit-append first.symbols second.symbols first.fit second.fit;
         });
   }
