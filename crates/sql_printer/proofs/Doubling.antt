@@ -1,6 +1,6 @@
 -- A text is doubled from one quote to the next.
 use Rattle.std.specs.Prelude.{◌≡◌, ℕ, zero, suc, ◌+◌, ◌<◌, Bool, true, false, ◌==◌, List, [], ◌∷◌, ◌++◌, length, take, drop, slice_index, Some, None, if◌then◌else◌, refl}
-use Rattle.std.proofs.Common.{◌∙◌, ap, sym, arith, add-one, eqb-true}
+use Rattle.std.proofs.Common.{◌∙◌, ap, arith, add-one, eqb-true}
 use Rattle.std.proofs.lemmas.Bool.{false_from_ne_true}
 use Rattle.memchr.specs.Find.{IsFirstByte, is_byte}
 use Rattle.sql_printed.specs.Shown.{doubled}

@@ -285,12 +285,7 @@ impl Writer {
 
     /// Members with a separator between them.
     #[cycle(expression)]
-    fn members(
-        &mut self,
-        height: u8,
-        separator: &str,
-        members: &[Expr],
-    ) -> Result<(), AllocError>
+    fn members(&mut self, height: u8, separator: &str, members: &[Expr]) -> Result<(), AllocError>
         ensures { OnOk result (self.new ≡ self.old ++ joined separator.now (map (at height) (map shown members.now))) }
     {
         let mut front = "";

@@ -17,8 +17,7 @@ pub returns : goal.returns
 returns c =
     let quote = quote_at c.args.quote c.args.text.now c.as_bytes.result.now c.in_ok-at.at c.requires c.as_bytes.ensures.value c.in_ok-at.ensures in
     let cut = cut_at c.args.quote c.args.text.now c.as_bytes.result.now c.in_ok-at.at c.as_bytes.ensures.value c.in_ok-at.ensures in
-    let shorter : length c.range_from.result.now < length c.args.text.now = omega (arith, quote.0, c.range_from.ensures.len) in
-    (
+    let shorter : length c.range_from.result.now < length c.args.text.now = omega (arith, quote.0, c.range_from.ensures.len) in (
       shorter,
       let front : c.in_ok-at.at - 0 ≡ c.in_ok-at.at = omega arith in rw (c.range_from.ensures.value, c.range.ensures.value, front) cut,
     )
