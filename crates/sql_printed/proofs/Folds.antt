@@ -27,10 +27,10 @@ pub all_same : {A : Type 0} (f g : A → List ℕ) → ((a : A) → f a ≡ g a)
 all_same f g h [] = refl
 all_same f g h (x ∷ xs) = ap (λ l. l ++ print_all f xs) (h x) ∙ ap (λ l. g x ++ l) (all_same f g h xs)
 
-pub joined_rest : {A : Type 0} (separator : List ℕ) (f : A → List ℕ) (xs : List A) → joined_from separator separator (map f xs) ≡ print_all (λ a. separator ++ f a) xs
-joined_rest separator f [] = refl
-joined_rest separator f (x ∷ xs) =
-    ap (λ l. separator ++ (f x ++ l)) (joined_rest separator f xs) ∙ sym (append_assoc separator (f x) (print_all (λ a. separator ++ f a) xs))
+pub joined_rest : {A B : Type 0} (separator : List ℕ) (f : B → List ℕ) (g : A → B) (xs : List A) → joined_from separator separator (map f (map g xs)) ≡ print_all (λ a. separator ++ f (g a)) xs
+joined_rest separator f g [] = refl
+joined_rest separator f g (x ∷ xs) =
+    ap (λ l. separator ++ (f (g x) ++ l)) (joined_rest separator f g xs) ∙ sym (append_assoc separator (f (g x)) (print_all (λ a. separator ++ f (g a)) xs))
 
 -- ---- parts
 

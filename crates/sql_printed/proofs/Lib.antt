@@ -5,3 +5,4 @@ pub mod Names
 pub mod Again
 pub mod Levels
 pub mod Folds
+pub mod Operators
