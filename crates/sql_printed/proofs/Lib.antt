@@ -6,3 +6,5 @@ pub mod Again
 pub mod Levels
 pub mod Folds
 pub mod Operators
+pub mod Enclosed
+pub mod Listed
