@@ -9,7 +9,7 @@ use Rattle.grammar_rules.specs.Spelled.{print_all}
 use Rattle.grammar_rules.proofs.Printing.{spelled-one_more}
 use Rattle.sql_grammar.specs.Marks.{Fault, too_many}
 use Rattle.sql_grammar.specs.Expressions.{Counting}
-use Rattle.sql_printed.proofs.Telling.{is_clear, Starts, Cuts, Prints, IsWord, Word, Told, told-both, told-given, told-into, told-some, told-past, told-before, told-as, told-none, told-plain, told-nil, told-cons, fit-one, cuts-nothing}
+use Rattle.sql_printed.proofs.Telling.{is_clear, Starts, Cuts, Prints, IsWord, Word, Told, told-both, told-given, told-into, told-first, told-second, told-some, told-past, told-before, told-as, told-none, told-plain, told-nil, told-cons, fit-one, cuts-nothing}
 use Rattle.sql_printed.proofs.Names.{GoodToken}
 
 -- ---- symbols that stand in a text
@@ -149,3 +149,10 @@ module _ {A : Type 0} (G : Counting A) (I : ℕ → Counting A) (d : ℕ) (print
 
   pub again-many_from : Again (many_from G) (λ e. many_from (I e)) d (print_all print)
   again-many_from n p ts good w = again_bounded w.0 n p ts good w.1
+
+pub again-as : {A : Type 0} (G : Counting A) (I : ℕ → Counting A) (d : ℕ) (print other : A → List ℕ) → ((a : A) → print a ≡ other a) → Again G I d print → Again G I d other
+again-as G I d print other e g n p ts good w = told-as I d n p.1 p.0 (print p.0) (g n p ts good w) (other p.0) (e p.0)
+
+pub again-either : {A : Type 0} (G H : Counting A) (I J : ℕ → Counting A) (d : ℕ) (print : A → List ℕ) → Again G I d print → Again H J d print → Again (λ n. either (G n) (H n)) (λ e n. either (I e n) (J e n)) d print
+again-either G H I J d print g h n p ts good (true, w) = told-first I d n p.1 p.0 (print p.0) (g n p ts good w) J
+again-either G H I J d print g h n p ts good (false, w) = told-second J d n p.1 p.0 (print p.0) (h n p ts good w) I

@@ -8,3 +8,4 @@ pub mod Folds
 pub mod Operators
 pub mod Enclosed
 pub mod Listed
+pub mod Predicates

@@ -13,6 +13,11 @@ use Rattle.sql_printed.proofs.Telling.{is_clear, Starts, starts-all, Cuts, Told,
 use Rattle.sql_printed.proofs.Words.{comma_blank}
 use Rattle.sql_printed.proofs.Again.{AllGood, good_left, good_right, Again}
 
+-- the text of a list
+abbrev pub list_text : {A : Type 0} → (A → List ℕ) → List A → List ℕ
+list_text print [] = []
+list_text print (a ∷ xs) = print a ++ print_all (λ b. codes ", " ++ print b) xs
+
 -- ---- one item
 
 -- an item that was spelled had room
@@ -108,13 +113,7 @@ module _ {A : Type 0} (over : ℕ → Symbol → Option Fault) (G : Counting A) 
         subst (λ v. ToldItems over I d most n v.1.0 v.1.1 v.0 print) j.after.1
         (items_cons most n j.value.1.0 j.value.1.1 q.1.0 q.1.1 j.value.0 q.0 one.room first rest)
 
-    -- the text of a list
-    pub list_text : List A → List ℕ
-    list_text [] = []
-    list_text (a ∷ xs) = print a ++ print_all (λ b. codes ", " ++ print b) xs
-
-    pub again-list : (limit : ℕ) → Again (list_of limit own_over (of k.Comma) G) (λ f. list_of limit (over f) (of k.Comma) (I f)) d list_text
-    unfolding list_text
+    pub again-list : (limit : ℕ) → Again (list_of limit own_over (of k.Comma) G) (λ f. list_of limit (over f) (of k.Comma) (I f)) d (list_text print)
     again-list limit n p ts good w =
         let x = w.2 in
         let j = x.2 in
@@ -146,4 +145,4 @@ module _ {A : Type 0} (over : ℕ → Symbol → Option Fault) (G : Counting A) 
         } in
         let a : ((j.value.0 ∷ q.0), q.1.1) ≡ (x.0.0.0 ∷ x.0.0.1, x.0.1.1) = ap (λ v. (v.0.0 ∷ v.0.1, v.1.1)) j.after.1 in
         let b : (x.0.0.0 ∷ x.0.0.1, x.0.1.1) ≡ (w.0.0, w.0.1.1) = ap (λ v. (v.0, v.1.1)) x.1 in
-        subst (λ v. Told (λ f. list_of limit (over f) (of k.Comma) (I f)) d n v.1 v.0 (list_text v.0)) (a ∙ (b ∙ w.1)) all
+        subst (λ v. Told (λ f. list_of limit (over f) (of k.Comma) (I f)) d n v.1 v.0 (list_text print v.0)) (a ∙ (b ∙ w.1)) all
