@@ -9,3 +9,4 @@ pub mod Operators
 pub mod Enclosed
 pub mod Listed
 pub mod Predicates
+pub mod Sentences

@@ -53,19 +53,19 @@ tail_text (being_null t) = codes " IS" ++ (not_text t ++ codes " NULL")
 tail_text (being_missing t) = codes " IS" ++ (not_text t ++ codes " MISSING")
 
 -- behind their first words
-abbrev between_body : Tail → List ℕ
+abbrev pub between_body : Tail → List ℕ
 between_body (lying t low high) = at 3 (shown low) ++ (codes " AND " ++ at 3 (shown high))
 between_body _ = []
 
-abbrev among_body : Tail → List ℕ
+abbrev pub among_body : Tail → List ℕ
 among_body (among t xs) = enclosed_text (joined (codes ", ") (map (at 7) (map shown xs)))
 among_body _ = []
 
-abbrev like_body : Tail → List ℕ
+abbrev pub like_body : Tail → List ℕ
 like_body (liking t pattern esc) = literal_text pattern ++ escape_text esc
 like_body _ = []
 
-not_before : (rest : List ℕ) (place : ℕ) → begins is_word_byte rest ≡ false → IsWord (of k.Not) (codes " NOT") rest place
+pub not_before : (rest : List ℕ) (place : ℕ) → begins is_word_byte rest ≡ false → IsWord (of k.Not) (codes " NOT") rest place
 unfolding class_of_word same_class
 not_before rest place b = keyword_behind k.Not (codes "NOT") rest place refl b
 
@@ -104,7 +104,7 @@ told-not G d n m x text blank t = record {
       (first.symbol, refl, spelled-token (of k.Not) first.symbol first.passes) body);
 }
 
-again-negatable : (G : Bool → Counting Tail) (J : Bool → ℕ → Counting Tail) (d : ℕ) (front : List ℕ) (body : Tail → List ℕ) → ((t : Bool) → Again (G t) (J t) d (λ x. front ++ body x))
+pub again-negatable : (G : Bool → Counting Tail) (J : Bool → ℕ → Counting Tail) (d : ℕ) (front : List ℕ) (body : Tail → List ℕ) → ((t : Bool) → Again (G t) (J t) d (λ x. front ++ body x))
     → ((t : Bool) (n : ℕ) (p : Tail × ℕ) (ts : List Symbol) → (G t n).Spells p ts → not_text t ++ (front ++ body p.0) ≡ tail_text p.0) → ((y r : List ℕ) → begins is_word_byte ((front ++ y) ++ r) ≡ false)
     → Again (negatable (room_of d) (inner_of d) G) (λ f. negatable (room_of f) (inner_of f) (λ b. J b f)) d tail_text
 again-negatable G J d front body g same blank n p ts good (true, j) =
@@ -127,22 +127,22 @@ module _ (d : ℕ) (below : Owned d 3) where
   sums : Again (rule_at 3 d) (rule_at 3) d (λ x. at 3 (shown x))
   sums = again-own d 3 below
 
-  comparison_again : Again (comparison (room_of d) (inner_of d)) (λ f. comparison (room_of f) (inner_of f)) d tail_text
+  pub comparison_again : Again (comparison (room_of d) (inner_of d)) (λ f. comparison (room_of f) (inner_of f)) d tail_text
   comparison_again =
       again-given (λ p. comparing p.0 p.1) (both (plain (terminal (one_told compare_op))) (rule_at 3 d)) (λ f. both (plain (terminal (one_told compare_op))) (rule_at 3 f)) d tail_text
       (again-op (one_told compare_op) (rule_at 3 d) (rule_at 3) d compare_text (λ x. at 3 (shown x)) compare_op_prints sums)
 
-  between_again : (t : Bool) → Again (between (room_of d) (inner_of d) t) (λ f. between (room_of f) (inner_of f) t) d (λ x. codes " BETWEEN " ++ between_body x)
+  pub between_again : (t : Bool) → Again (between (room_of d) (inner_of d) t) (λ f. between (room_of f) (inner_of f) t) d (λ x. codes " BETWEEN " ++ between_body x)
   between_again t =
       again-past (of k.Between) (given (λ p. lying t p.0 p.1) (both (rule_at 3 d) (past (of k.And) (rule_at 3 d)))) (λ f. given (λ p. lying t p.0 p.1) (both (rule_at 3 f) (past (of k.And) (rule_at 3 f)))) d (codes " BETWEEN ") between_body between_word
       (again-given (λ p. lying t p.0 p.1) (both (rule_at 3 d) (past (of k.And) (rule_at 3 d))) (λ f. both (rule_at 3 f) (past (of k.And) (rule_at 3 f))) d between_body
       (again-both (rule_at 3 d) (past (of k.And) (rule_at 3 d)) (rule_at 3) (λ f. past (of k.And) (rule_at 3 f)) d (λ x. at 3 (shown x)) (λ x. codes " AND " ++ at 3 (shown x)) starts_high sums
       (again-past (of k.And) (rule_at 3 d) (rule_at 3) d (codes " AND ") (λ x. at 3 (shown x)) and_word sums)))
 
-between_same : (d : ℕ) (t : Bool) (n : ℕ) (p : Tail × ℕ) (ts : List Symbol) → (between (room_of d) (inner_of d) t n).Spells p ts → not_text t ++ (codes " BETWEEN " ++ between_body p.0) ≡ tail_text p.0
+pub between_same : (d : ℕ) (t : Bool) (n : ℕ) (p : Tail × ℕ) (ts : List Symbol) → (between (room_of d) (inner_of d) t n).Spells p ts → not_text t ++ (codes " BETWEEN " ++ between_body p.0) ≡ tail_text p.0
 between_same d t n p ts j = subst (λ v. not_text t ++ (codes " BETWEEN " ++ between_body v.0) ≡ tail_text v.0) j.after.1 refl
 
-between_blank : (y r : List ℕ) → begins is_word_byte ((codes " BETWEEN " ++ y) ++ r) ≡ false
+pub between_blank : (y r : List ℕ) → begins is_word_byte ((codes " BETWEEN " ++ y) ++ r) ≡ false
 between_blank y r = refl
 
 -- ---- IN
@@ -159,15 +159,15 @@ module _ (d : ℕ) (inside : Again (inner_of d) inner_of d (λ x. at 7 (shown x)
       (λ f below r. more_room d f below r)
       (again-list (λ f s. over_class (room_of f).deeper (class s)) (inner_of d) inner_of d (λ x. at 7 (shown x)) inside (λ s. over_class (room_of d).deeper (class s)) 1000))
 
-  in_again : (t : Bool) → Again (in_members (room_of d) (inner_of d) t) (λ f. in_members (room_of f) (inner_of f) t) d (λ x. codes " IN " ++ among_body x)
+  pub in_again : (t : Bool) → Again (in_members (room_of d) (inner_of d) t) (λ f. in_members (room_of f) (inner_of f) t) d (λ x. codes " IN " ++ among_body x)
   in_again t =
       again-past (of k.In) (given (among t) (members (room_of d) (inner_of d))) (λ f. given (among t) (members (room_of f) (inner_of f))) d (codes " IN ") among_body in_word
       (again-given (among t) (members (room_of d) (inner_of d)) (λ f. members (room_of f) (inner_of f)) d among_body members_again)
 
-in_same : (d : ℕ) (t : Bool) (n : ℕ) (p : Tail × ℕ) (ts : List Symbol) → (in_members (room_of d) (inner_of d) t n).Spells p ts → not_text t ++ (codes " IN " ++ among_body p.0) ≡ tail_text p.0
+pub in_same : (d : ℕ) (t : Bool) (n : ℕ) (p : Tail × ℕ) (ts : List Symbol) → (in_members (room_of d) (inner_of d) t n).Spells p ts → not_text t ++ (codes " IN " ++ among_body p.0) ≡ tail_text p.0
 in_same d t n p ts j = subst (λ v. not_text t ++ (codes " IN " ++ among_body v.0) ≡ tail_text v.0) j.after.1 refl
 
-in_blank : (y r : List ℕ) → begins is_word_byte ((codes " IN " ++ y) ++ r) ≡ false
+pub in_blank : (y r : List ℕ) → begins is_word_byte ((codes " IN " ++ y) ++ r) ≡ false
 in_blank y r = refl
 
 -- ---- LIKE
@@ -278,15 +278,15 @@ like_plain d t n p ts good w =
     let e : (liking t j.value a.0, n) ≡ (w.0, n) = ap (λ x. (x, n)) a.1 in
     subst (λ v. Told (λ f. plain (like_rule t)) d n v.1 v.0 (like_body v.0)) (e ∙ w.1) told
 
-like_again : (d : ℕ) (t : Bool) → Again (like (room_of d) (inner_of d) t) (λ f. like (room_of f) (inner_of f) t) d (λ x. codes " LIKE " ++ like_body x)
+pub like_again : (d : ℕ) (t : Bool) → Again (like (room_of d) (inner_of d) t) (λ f. like (room_of f) (inner_of f) t) d (λ x. codes " LIKE " ++ like_body x)
 like_again d t = again-past (of k.Like) (plain (like_rule t)) (λ f. plain (like_rule t)) d (codes " LIKE ") like_body like_word (like_plain d t)
 
-like_same : (d : ℕ) (t : Bool) (n : ℕ) (p : Tail × ℕ) (ts : List Symbol) → (like (room_of d) (inner_of d) t n).Spells p ts → not_text t ++ (codes " LIKE " ++ like_body p.0) ≡ tail_text p.0
+pub like_same : (d : ℕ) (t : Bool) (n : ℕ) (p : Tail × ℕ) (ts : List Symbol) → (like (room_of d) (inner_of d) t n).Spells p ts → not_text t ++ (codes " LIKE " ++ like_body p.0) ≡ tail_text p.0
 like_same d t n p ts j =
     let w = j.after in
     let a = w.2.after in
     let e : (liking t w.2.value a.0, n) ≡ (w.0, n) = ap (λ x. (x, n)) a.1 in
     subst (λ v. not_text t ++ (codes " LIKE " ++ like_body v.0) ≡ tail_text v.0) (e ∙ w.1) refl
 
-like_blank : (y r : List ℕ) → begins is_word_byte ((codes " LIKE " ++ y) ++ r) ≡ false
+pub like_blank : (y r : List ℕ) → begins is_word_byte ((codes " LIKE " ++ y) ++ r) ≡ false
 like_blank y r = refl
