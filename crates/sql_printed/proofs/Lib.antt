@@ -8,5 +8,7 @@ pub mod Folds
 pub mod Operators
 pub mod Enclosed
 pub mod Listed
+pub mod Characters
 pub mod Predicates
 pub mod Sentences
+pub mod Good

@@ -10,7 +10,7 @@ use Rattle.sql_tokens.specs.TokenForms.{Token, word, quoted_name, text_literal, 
 use Rattle.sql_tokens.specs.Cutting.{Symbol, cut, is_unfit}
 use Rattle.sql_tokens.specs.Payloads.{once_behind, undoubled}
 use Rattle.grammar_rules.specs.Rules.{Verdict, takes, refuses}
-use Rattle.std.specs.Prelude.{chars, encode_utf8, pos, negsuc}
+use Rattle.std.specs.Prelude.{pos, negsuc}
 use Rattle.sql_decimal.specs.declared.number.Num.{Num}
 use Rattle.sql_decimal.specs.declared.number.Num.TheVariants.{Int, Dec}
 use Rattle.sql_decimal.specs.Decimal.{Decimal, IsDecimal, is_negative}
@@ -115,10 +115,6 @@ quoted_prints test t some e at rest a =
 
 -- ---- tokens that stand in a text
 
--- the one character of a text is a character
-abbrev pub EscapeFit : List ℕ → Type 0
-EscapeFit bs = (c : ℕ) → chars bs ≡ c ∷ [] → chars (encode_utf8 c) ≡ c ∷ []
-
 -- a decimal that a number text has: not below zero, and no Int
 pub record DecimalFit (d : Decimal) : Type 0 where
   pub decimal : IsDecimal d
@@ -133,7 +129,7 @@ NumberFit (Dec d) = DecimalFit d
 abbrev pub GoodToken : Token → Type 0
 GoodToken (word called w) = is_word w ≡ true
 GoodToken (quoted_name called raw) = 0 < length raw
-GoodToken (text_literal raw) = EscapeFit (undoubled 39 raw)
+GoodToken (text_literal raw) = Unit {0}
 GoodToken (whole_number raw) = NumberFit (number_in (whole_number raw))
 GoodToken (point_number raw) = NumberFit (number_in (point_number raw))
 GoodToken (exponent_number raw) = Unit {0}

@@ -24,8 +24,9 @@ use Rattle.sql_grammar.specs.Expressions.{Counting, room_of, perhaps, Tail, comp
 use Rattle.sql_printed.specs.Shown.{Shown, shown, at, form, compare_text, not_text, literal_text, escape_text, joined, joined_from, enclosed_text, doubled}
 use Rattle.sql_printed.proofs.Telling.{is_clear, ends_words, Starts, starts-append, Cuts, Prints, IsWord, Word, Told, told-both, told-given, told-into, told-as, told-some, told-past, told-plain, cuts-into, cuts-past, cuts-sequence, cuts-nothing, fit-one}
 use Rattle.sql_printed.proofs.Words.{if_true, and_left, keyword_blanks, keyword_behind}
+use Rattle.sql_printed.proofs.Characters.{char_again}
 use Rattle.sql_printed.proofs.Quotes.{cut_literal, undoubled_doubled}
-use Rattle.sql_printed.proofs.Names.{GoodToken, EscapeFit}
+use Rattle.sql_printed.proofs.Names.{GoodToken}
 use Rattle.sql_printed.proofs.Again.{AllGood, good_left, good_right, good_one, taken_one, IsOne, OnePrints, cuts-one, Again, again-terminal, again-both, again-given, again-past, again-as, again-either}
 use Rattle.sql_printed.proofs.Enclosed.{again-enclosed, more_room}
 use Rattle.sql_printed.proofs.Listed.{again-list, list_text}
@@ -213,20 +214,6 @@ escape_taken pattern s esc e =
       | false ↦ λ f. absurd (let no : ⊥ = cc in no)
     ]) e
 
-no_character : (c : ℕ) → chars (undoubled 39 []) ≡ c ∷ [] → ⊥
-unfolding undoubled
-no_character c e = let n : chars [] ≡ [] = chars-nil in cc
-
-escape_fit : (t : Token) (c : ℕ) → GoodToken t → chars (text_in t) ≡ c ∷ [] → chars (encode_utf8 c) ≡ c ∷ []
-escape_fit (text_literal raw) c g e = g c e
-escape_fit (word called w) c g e = absurd (no_character c e)
-escape_fit (quoted_name called raw) c g e = absurd (no_character c e)
-escape_fit (whole_number raw) c g e = absurd (no_character c e)
-escape_fit (point_number raw) c g e = absurd (no_character c e)
-escape_fit (exponent_number raw) c g e = absurd (no_character c e)
-escape_fit (punctuation x) c g e = absurd (no_character c e)
-escape_fit (unfit raw) c g e = absurd (no_character c e)
-
 escape_prints : (pattern : List ℕ) (c : ℕ) → is_some (pattern_parts (Some c) (chars pattern)) ≡ true → chars (encode_utf8 c) ≡ c ∷ [] → OnePrints (escape pattern) (Some c) (literal_text (encode_utf8 c))
 unfolding same_class
 escape_prints pattern c f r place rest clear = record {
@@ -246,8 +233,7 @@ escape_again pattern esc ts good (false, w) = subst (λ x. Prints (escape_part p
 escape_again pattern esc ts good (true, j) =
     let t = taken_one (escape pattern) esc j.right j.after in
     let x = escape_taken pattern t.symbol esc t.taken in
-    let g = good_one j.right t.symbol t.is (good_right ts j.left j.right j.joined good) in
-    let r = escape_fit t.symbol.token x.character g x.alone in
+    let r = char_again x.character in
     let o = escape_prints pattern x.character x.fits r in
     subst (λ y. Prints (escape_part pattern) y (escape_text y)) (sym x.some) (λ place rest c.
         let first = escape_word place (literal_text (encode_utf8 x.character) ++ rest) in
