@@ -11,4 +11,5 @@ pub mod Listed
 pub mod Characters
 pub mod Predicates
 pub mod Sentences
+pub mod Calls
 pub mod Good
