@@ -12,4 +12,5 @@ pub mod Characters
 pub mod Predicates
 pub mod Sentences
 pub mod Calls
+pub mod Primaries
 pub mod Good

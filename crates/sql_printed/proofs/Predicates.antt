@@ -173,7 +173,7 @@ in_blank y r = refl
 
 -- ---- LIKE
 
-clear_quote : (rest : List ℕ) → is_clear rest ≡ true → begins (λ c. c == 39) rest ≡ false
+pub clear_quote : (rest : List ℕ) → is_clear rest ≡ true → begins (λ c. c == 39) rest ≡ false
 unfolding is_clear
 clear_quote [] c = refl
 clear_quote (b ∷ rest) c = let e : ends_words (b ∷ rest) ≡ true = and_left (ends_words (b ∷ rest)) _ c in grind (arith, nat_tests)

@@ -1,0 +1,119 @@
+-- Texts, truth values, NULL, MISSING, parentheses, and functions with parts are told again.
+use Rattle.std.proofs.Common.{◌≡◌, ℕ, zero, suc, ◌+◌, ◌-◌, ◌≤◌, ◌<◌, nat_lt, nat_le, Bool, true, false, List, [], ◌∷◌, ◌++◌, map, length, Option, Some, None, refl, sym, ap, ◌∙◌, subst, arith, append_assoc, if◌then◌else◌, codes}
+use Rattle.sql_tokens.specs.declared.class.Class.{Class}
+use Rattle.sql_tokens.specs.declared.class.Class.TheVariants as k
+use Rattle.sql_tokens.specs.Classes.{same_class}
+use Rattle.sql_tokens.specs.TokenForms.{Token, text_literal, word, begins, is_word_byte, is_called}
+use Rattle.sql_tokens.specs.Keywords.{class_of_word}
+use Rattle.sql_tokens.specs.Cutting.{Symbol, cut, first_unfit, is_unfit}
+use Rattle.grammar_rules.specs.Rules.{Rule, Verdict, takes, faults, refuses, terminal, token, nothing, made, either, begun, sequence, preceded_by}
+use Rattle.grammar_rules.specs.Counted.{Counted, plain, one_more, given, both, after, before, past, maybe, many_from, chain}
+use Rattle.sql_grammar.specs.declared.tree.Expr.{Expr}
+use Rattle.sql_grammar.specs.declared.tree.Expr.TheVariants as e
+use Rattle.sql_grammar.specs.declared.tree.DatePart.{DatePart}
+use Rattle.sql_grammar.specs.declared.tree.DatePart.TheVariants as part
+use Rattle.sql_grammar.specs.Marks.{Fault, too_many, class, of, one_told, told_by, text_in, stamp_part, date_part, Form, literal_text as text_form, truth, untruth, null_form, missing_form, coalesce_form, extract_form, date_add_form, substring_form, group_form}
+use Rattle.sql_grammar.specs.Expressions.{Counting, room_of, literal, word as keyword_word, opening, enclosed, call, listed, primary_of, primary, group, expression}
+use Rattle.sql_printed.specs.Shown.{Shown, shown, at, form, enclosed_text, literal_text, part_text, truth_text, joined, doubled}
+use Rattle.sql_printed.proofs.Telling.{is_clear, Starts, Cuts, Prints, IsWord, Word, Told, told-into, told-as}
+use Rattle.sql_printed.proofs.Words.{is_word, comma_blank, keyword_blanks, if_true}
+use Rattle.sql_printed.proofs.Quotes.{cut_literal, undoubled_doubled}
+use Rattle.sql_printed.proofs.Names.{GoodToken, clear_words}
+use Rattle.sql_printed.proofs.Again.{AllGood, good_left, good_right, good_one, IsOne, OnePrints, IsTaken, IsCounted, taken_one, counted_one, told-one, Again, again-terminal, again-both, again-given, again-past, again-many_from, again-as}
+use Rattle.sql_printed.proofs.Enclosed.{open_room, more_room}
+use Rattle.sql_printed.proofs.Listed.{list_text}
+use Rattle.sql_printed.proofs.Levels.{inner_of, rule_at, Own, own-group}
+use Rattle.sql_printed.proofs.Folds.{joined_rest, shown_text, shown_bool, shown_null, shown_missing, shown_coalesce, shown_extract, shown_date_add}
+use Rattle.sql_printed.proofs.Operators.{own-shown}
+use Rattle.sql_printed.proofs.Predicates.{text_prints, clear_quote}
+use Rattle.sql_printed.proofs.Sentences.{word_taken}
+use Rattle.sql_printed.proofs.Calls.{own-call, forms-given}
+
+-- ---- one token that is an expression
+
+-- what a literal that was spelled tells
+record IsLiteral (spelled : Symbol → Expr) (n : ℕ) (p : Expr × ℕ) : Type 0 where
+  symbol : Symbol
+  good : GoodToken symbol.token
+  is : spelled symbol ≡ p.0
+  counts : n ≡ suc p.1
+
+abbrev pub fault_verdict : Verdict Fault Expr → Verdict Fault Expr
+fault_verdict v = v
+
+look_taken : (t : Bool) (a b : Expr) → fault_verdict (if t then takes a else refuses) ≡ takes b → a ≡ b
+look_taken true a b e = cc
+look_taken false a b e = absurd (let no : ⊥ = cc in no)
+
+spelled_literal : (test : Class → Bool) (spelled : Symbol → Expr) (n : ℕ) (p : Expr × ℕ) (ts : List Symbol) → AllGood ts → (literal test spelled n).Spells p ts → IsLiteral spelled n p
+spelled_literal test spelled n p ts good w =
+    let c = counted_one too_many (λ s. if test (class s) then takes (spelled s) else refuses) n p ts w in
+    record { symbol = c.one.symbol; good = good_one ts c.one.symbol c.one.is good; is = look_taken (test (class c.one.symbol)) (spelled c.one.symbol) p.0 c.one.taken; counts = c.counts }
+
+-- an expression that is one token
+own-literal : (test : Class → Bool) (spelled : Symbol → Expr) (known : Form) (d n : ℕ) (p : Expr × ℕ) (ts : List Symbol) (text : List ℕ) → n ≡ suc p.1 → shown p.0 ≡ form 0 text
+    → OnePrints (λ s. if test (class s) then takes (spelled s) else refuses) p.0 text
+    → ((f i : ℕ) (q : Expr × ℕ) (us : List Symbol) → (literal test spelled i).Spells q us → (primary_of (room_of f) (inner_of f) known i).Spells q us) → Own d n p.1 0 p.0
+unfolding primary
+own-literal test spelled known d n p ts text c is o into =
+    own-shown d n p.1 0 p.0 text is refl refl
+    (told-into (λ f. literal test spelled) d n p.1 p.0 text (told-one (λ s. if test (class s) then takes (spelled s) else refuses) too_many d n p.1 p.0 text c o) (rule_at 0) p.0 (λ f m l us v. (known, into f l (p.0, m) us v)))
+
+-- a text
+text_expr_prints : (bytes : List ℕ) → OnePrints (λ s. fault_verdict (if same_class k.Text (class s) then takes (e.Text (text_in s.token)) else refuses)) (e.Text bytes) (literal_text bytes)
+unfolding same_class
+text_expr_prints bytes place rest c =
+    let o = text_prints bytes place rest c in
+    record {
+      symbol = record { at = place; token = text_literal (doubled 39 bytes) };
+      next = place + (length (doubled 39 bytes) + 2);
+      is = cut_literal place bytes rest (clear_quote rest c);
+      taken = ap (λ l. takes (e.Text l)) (undoubled_doubled 39 bytes);
+      fit = refl;
+    }
+
+pub own-text : (d n : ℕ) (p : Expr × ℕ) (ts : List Symbol) → AllGood ts → (primary_of (room_of d) (inner_of d) text_form n).Spells p ts → Own d n p.1 0 p.0
+own-text d n p ts good w =
+    let l = spelled_literal (same_class k.Text) (λ s. e.Text (text_in s.token)) n p ts good w in
+    let bytes = text_in l.symbol.token in
+    let o : Own d n p.1 0 (e.Text bytes) = own-literal (same_class k.Text) (λ s. e.Text (text_in s.token)) text_form d n (e.Text bytes, p.1) ts (literal_text bytes) l.counts (shown_text bytes) (text_expr_prints bytes) (λ f i q us v. v) in
+    subst (λ x. Own d n p.1 0 x) l.is o
+
+-- a word
+own-word : (c : Class) (x : Expr) (w : List ℕ) (known : Form) → is_word w ≡ true → ((called : Bool) → same_class c (class_of_word called w) ≡ true) → shown x ≡ form 0 w
+    → ((f i : ℕ) (q : Expr × ℕ) (us : List Symbol) → (literal (same_class c) (λ s. x) i).Spells q us → (primary_of (room_of f) (inner_of f) known i).Spells q us)
+    → (d n : ℕ) (p : Expr × ℕ) (ts : List Symbol) → AllGood ts → (literal (same_class c) (λ s. x) n).Spells p ts → Own d n p.1 0 p.0
+own-word c x w known i k is into d n p ts good y =
+    let l = spelled_literal (same_class c) (λ s. x) n p ts good y in
+    let o : OnePrints (λ s. fault_verdict (if same_class c (class s) then takes x else refuses)) x w =
+        λ place rest clear. word_taken (λ s. if same_class c (class s) then takes x else refuses) x w rest place i (λ called at. if_true (same_class c (class_of_word called w)) (takes x) refuses (k called)) (clear_words rest clear) in
+    subst (λ z. Own d n p.1 0 z) l.is (own-literal (same_class c) (λ s. x) known d n (x, p.1) ts w l.counts is o into)
+
+pub own-truth : (d n : ℕ) (p : Expr × ℕ) (ts : List Symbol) → AllGood ts → (primary_of (room_of d) (inner_of d) truth n).Spells p ts → Own d n p.1 0 p.0
+unfolding class_of_word same_class
+own-truth = own-word k.True (e.Bool true) (codes "TRUE") truth refl (λ c. elim c as (λ c. same_class k.True (class_of_word c (codes "TRUE")) ≡ true) [ true ↦ refl | false ↦ refl ]) (shown_bool true) (λ f i q us v. v)
+
+pub own-untruth : (d n : ℕ) (p : Expr × ℕ) (ts : List Symbol) → AllGood ts → (primary_of (room_of d) (inner_of d) untruth n).Spells p ts → Own d n p.1 0 p.0
+unfolding class_of_word same_class
+own-untruth = own-word k.False (e.Bool false) (codes "FALSE") untruth refl (λ c. elim c as (λ c. same_class k.False (class_of_word c (codes "FALSE")) ≡ true) [ true ↦ refl | false ↦ refl ]) (shown_bool false) (λ f i q us v. v)
+
+pub own-null : (d n : ℕ) (p : Expr × ℕ) (ts : List Symbol) → AllGood ts → (primary_of (room_of d) (inner_of d) null_form n).Spells p ts → Own d n p.1 0 p.0
+unfolding class_of_word same_class
+own-null = own-word k.Null e.Null (codes "NULL") null_form refl (λ c. elim c as (λ c. same_class k.Null (class_of_word c (codes "NULL")) ≡ true) [ true ↦ refl | false ↦ refl ]) shown_null (λ f i q us v. v)
+
+pub own-missing : (d n : ℕ) (p : Expr × ℕ) (ts : List Symbol) → AllGood ts → (primary_of (room_of d) (inner_of d) missing_form n).Spells p ts → Own d n p.1 0 p.0
+unfolding class_of_word same_class
+own-missing = own-word k.Missing e.Missing (codes "MISSING") missing_form refl (λ c. elim c as (λ c. same_class k.Missing (class_of_word c (codes "MISSING")) ≡ true) [ true ↦ refl | false ↦ refl ]) shown_missing (λ f i q us v. v)
+
+-- ---- parentheses
+
+pub own-parentheses : (d : ℕ) → ((n : ℕ) (p : Expr × ℕ) (ts : List Symbol) → AllGood ts → (expression d n).Spells p ts → Own d n p.1 7 p.0)
+    → (n : ℕ) (p : Expr × ℕ) (ts : List Symbol) → AllGood ts → (primary_of (room_of (suc d)) (inner_of (suc d)) group_form n).Spells p ts → Own (suc d) n p.1 0 p.0
+own-parentheses d below n p ts good j =
+    let c = counted_one too_many (opening (room_of (suc d)).here k.LeftParenthesis) n j.value j.left j.whole in
+    let b = j.after in
+    let good_rest = good_right ts j.left j.right j.joined good in
+    let o = below j.value.1 b.value b.left (good_left j.right b.left b.right b.joined good_rest) b.whole in
+    let g = own-group d j.value.1 b.value.1 b.value.0 o in
+    let h = subst (λ x. Own (suc d) x b.value.1 0 b.value.0) (sym c.counts) g in
+    subst (λ v. Own (suc d) n v.1 0 v.0) b.after.1 h
