@@ -13,4 +13,5 @@ pub mod Predicates
 pub mod Sentences
 pub mod Calls
 pub mod Primaries
+pub mod Numbers
 pub mod Good
