@@ -1,5 +1,17 @@
 -- The tokens of printed numbers.
-use Rattle.std.proofs.Common.{◌≡◌, ℕ, zero, suc, ◌+◌, ◌-◌, ◌*◌, ◌^◌, ◌≤◌, ◌<◌, ◌==◌, ◌&&◌, ◌||◌, not, nat_lt, nat_le, Bool, true, false, List, [], ◌∷◌, ◌++◌, length, take, drop, Option, Some, None, refl, sym, ap, ◌∙◌, subst, arith, append_assoc, length-append, if◌then◌else◌, pos, negsuc, decimal}
+use Rattle.std.proofs.Common.{◌≡◌, ℕ, zero, suc, ◌+◌, ◌-◌, ◌*◌, ◌^◌, ◌/◌, ◌≤◌, ◌<◌, ◌==◌, ◌&&◌, ◌||◌, not, nat_lt, nat_le, Bool, true, false, List, [], ◌∷◌, ◌++◌, length, take, drop, Option, Some, None, refl, sym, ap, ◌∙◌, subst, arith, append_assoc, length-append, if◌then◌else◌, pos, negsuc, decimal}
+use Rattle.std.specs.Str.{chars}
+use Rattle.std.proofs.lemmas.Str.{chars-nil}
+use Rattle.std.proofs.lemmas.Bool.{lt-ltb}
+use Rattle.std.proofs.Math.Nat.{div-one}
+use Rattle.sql_decimal.specs.declared.number.Num.{Num}
+use Rattle.sql_decimal.specs.declared.number.Num.TheVariants.{Int, Dec}
+use Rattle.sql_decimal.specs.Decimal.{decimal_of, IsDecimal}
+use Rattle.sql_decimal.specs.Printing.{printed, read_back}
+use Rattle.sql_decimal.specs.Reading.{number_of, in_whole}
+use Rattle.sql_decimal.proofs.ReadingBytes.{first_char}
+use Rattle.sql_decimal.proofs.PrintedNumbers.{printed_reads_back}
+use Rattle.sql_grammar.specs.Marks.{number_in, number_or_zero}
 use Rattle.std.proofs.Math.Seq.{take-append_seam, drop-append_seam}
 use Rattle.std.specs.List.{prefix_len}
 use Rattle.std.specs.Char.{is_ascii_digit, digit_value}
@@ -130,3 +142,45 @@ pub cut_decimal : (n : ℕ) (rest : List ℕ) (place : ℕ) → n < 10 ^ 38 → 
 cut_decimal n rest place l r =
     let d = decimal_digits n (omega arith) in
     cut_digits (decimal n) rest place d.0 d.1 (length-decimal-le_wide 38 n (omega arith) l (omega arith)) r
+
+-- ---- the number that is read
+
+ascii_chars : (bs : List ℕ) → ((b : ℕ) (front back : List ℕ) → bs ≡ front ++ b ∷ back → b < 128) → chars bs ≡ bs
+ascii_chars [] low = chars-nil
+ascii_chars (b ∷ bs) low = first_char b bs (low b [] bs refl) ∙ ap (λ l. b ∷ l) (ascii_chars bs (λ c front back e. low c (b ∷ front) back (ap (λ l. b ∷ l) e)))
+
+digit_chars : (ds : List ℕ) → all_ascii_digits ds ≡ true → chars ds ≡ ds
+digit_chars [] a = chars-nil
+digit_chars (d ∷ ds) a =
+    let f : is_ascii_digit d ≡ true = and_left (is_ascii_digit d) (all_ascii_digits ds) a in
+    let l : d < 128 = grind (arith, nat_tests) in
+    first_char d ds l ∙ ap (λ l. d ∷ l) (digit_chars ds (and_right (is_ascii_digit d) (all_ascii_digits ds) a))
+
+digit_other : (d x : ℕ) → is_ascii_digit d ≡ true → x < 48 → (d == x) ≡ false
+digit_other d x e l = grind (arith, nat_tests)
+
+-- a zero in front changes nothing
+zero_front : (d : ℕ) (ds : List ℕ) → is_ascii_digit d ≡ true → number_of (48 ∷ d ∷ ds) ≡ number_of (d ∷ ds)
+unfolding number_of
+zero_front d ds f =
+    let z : 0 * 10 + digit_value d ≡ digit_value d = omega arith in
+    if_true (is_ascii_digit d) _ _ f ∙ (ap (λ n. in_whole false n ds) z
+    ∙ sym (if_false (d == 32) _ _ (digit_other d 32 f (omega arith)) ∙ (if_false (d == 45) _ _ (digit_other d 45 f (omega arith)) ∙ (if_false (d == 43) _ _ (digit_other d 43 f (omega arith)) ∙ if_true (is_ascii_digit d) _ _ f))))
+
+printed_whole : (n : ℕ) → printed (decimal_of (pos n) 0) ≡ decimal n
+unfolding printed
+printed_whole n = append-nil (decimal (n / 10 ^ 0)) ∙ ap decimal (div-one n)
+
+front_read : (ds : List ℕ) → all_ascii_digits ds ≡ true → 0 < length ds → number_of (48 ∷ ds) ≡ number_of ds
+front_read [] a l = absurd (omega (arith, l))
+front_read (d ∷ ds) a l = zero_front d ds (and_left (is_ascii_digit d) (all_ascii_digits ds) a)
+
+-- digits of at most 2^63 - 1 are that Int
+pub decimal_in : (n : ℕ) → n < 9223372036854775808 → number_in (whole_number (decimal n)) ≡ Int (pos n)
+decimal_in n l =
+    let d = decimal_digits n (omega arith) in
+    let is : IsDecimal (decimal_of (pos n) 0) = record { digits = omega arith; scale = omega arith } in
+    let back = printed_reads_back (decimal_of (pos n) 0) is in
+    let t : nat_lt n (2 ^ 63) ≡ true = lt-ltb n (2 ^ 63) l in
+    let r : read_back (decimal_of (pos n) 0) ≡ Int (pos n) = if_true (nat_lt n (2 ^ 63)) (Int (pos n)) _ t in
+    ap (λ o. number_or_zero o) (front_read (decimal n) d.0 d.1 ∙ (sym (ap number_of (ap chars (printed_whole n) ∙ digit_chars (decimal n) d.0)) ∙ (back ∙ ap (λ x. Some x) r)))
