@@ -117,3 +117,44 @@ own-parentheses d below n p ts good j =
     let g = own-group d j.value.1 b.value.1 b.value.0 o in
     let h = subst (λ x. Own (suc d) x b.value.1 0 b.value.0) (sym c.counts) g in
     subst (λ v. Own (suc d) n v.1 0 v.0) b.after.1 h
+
+-- ---- COALESCE, and functions of a part of a timestamp
+
+-- a part's word, in front of what isn't more of it
+part_looks : (tell : Class → Option DatePart) (p : DatePart) (w rest : List ℕ) (place : ℕ) → is_word w ≡ true → ((called : Bool) → told_by {A = DatePart} (tell (class_of_word called w)) ≡ takes p) → begins is_word_byte rest ≡ false → IsOne (one_told tell) p w rest place
+part_looks tell p w rest place i l b = word_taken (one_told tell) p w rest place i (λ called at. l called) b
+
+stamp_prints : (p : DatePart) → OnePrints (one_told stamp_part) p (part_text p)
+unfolding class_of_word
+stamp_prints part.Year place rest c = part_looks stamp_part part.Year (codes "YEAR") rest place refl (λ b. elim b as (λ b. told_by (stamp_part (class_of_word b (codes "YEAR"))) ≡ takes part.Year) [ true ↦ refl | false ↦ refl ]) (clear_words rest c)
+stamp_prints part.Month place rest c = part_looks stamp_part part.Month (codes "MONTH") rest place refl (λ b. elim b as (λ b. told_by (stamp_part (class_of_word b (codes "MONTH"))) ≡ takes part.Month) [ true ↦ refl | false ↦ refl ]) (clear_words rest c)
+stamp_prints part.Day place rest c = part_looks stamp_part part.Day (codes "DAY") rest place refl (λ b. elim b as (λ b. told_by (stamp_part (class_of_word b (codes "DAY"))) ≡ takes part.Day) [ true ↦ refl | false ↦ refl ]) (clear_words rest c)
+stamp_prints part.Hour place rest c = part_looks stamp_part part.Hour (codes "HOUR") rest place refl (λ b. elim b as (λ b. told_by (stamp_part (class_of_word b (codes "HOUR"))) ≡ takes part.Hour) [ true ↦ refl | false ↦ refl ]) (clear_words rest c)
+stamp_prints part.Minute place rest c = part_looks stamp_part part.Minute (codes "MINUTE") rest place refl (λ b. elim b as (λ b. told_by (stamp_part (class_of_word b (codes "MINUTE"))) ≡ takes part.Minute) [ true ↦ refl | false ↦ refl ]) (clear_words rest c)
+stamp_prints part.Second place rest c = part_looks stamp_part part.Second (codes "SECOND") rest place refl (λ b. elim b as (λ b. told_by (stamp_part (class_of_word b (codes "SECOND"))) ≡ takes part.Second) [ true ↦ refl | false ↦ refl ]) (clear_words rest c)
+stamp_prints part.TimezoneHour place rest c = part_looks stamp_part part.TimezoneHour (codes "TIMEZONE_HOUR") rest place refl (λ b. elim b as (λ b. told_by (stamp_part (class_of_word b (codes "TIMEZONE_HOUR"))) ≡ takes part.TimezoneHour) [ true ↦ refl | false ↦ refl ]) (clear_words rest c)
+stamp_prints part.TimezoneMinute place rest c = part_looks stamp_part part.TimezoneMinute (codes "TIMEZONE_MINUTE") rest place refl (λ b. elim b as (λ b. told_by (stamp_part (class_of_word b (codes "TIMEZONE_MINUTE"))) ≡ takes part.TimezoneMinute) [ true ↦ refl | false ↦ refl ]) (clear_words rest c)
+
+from_word : Word (of k.From) (codes " FROM ")
+unfolding class_of_word same_class
+from_word = keyword_blanks k.From (codes "FROM") refl
+
+starts_from : (x : Expr) → Starts (codes " FROM " ++ (shown x).text)
+unfolding is_clear
+starts_from x rest c = refl
+
+starts_next : (x : Expr) → Starts (codes ", " ++ (shown x).text)
+unfolding is_clear
+starts_next x rest c = refl
+
+module _ (d : ℕ) (inside : Again (inner_of d) inner_of d (λ x. (shown x).text)) where
+  extract_is : (p : DatePart × Expr) → shown (e.Extract p.0 p.1) ≡ form 0 (codes "EXTRACT" ++ enclosed_text (part_text p.0 ++ (codes " FROM " ++ (shown p.1).text)))
+  extract_is p = shown_extract p.0 p.1 ∙ ap (λ l. form 0 (codes "EXTRACT(" ++ l)) (ap (λ l. part_text p.0 ++ l) (sym (append_assoc (codes " FROM ") (shown p.1).text (codes ")"))) ∙ sym (append_assoc (part_text p.0) (codes " FROM " ++ (shown p.1).text) (codes ")")))
+
+  pub own-extract : (n : ℕ) (p : Expr × ℕ) (ts : List Symbol) → AllGood ts → (primary_of (room_of d) (inner_of d) extract_form n).Spells p ts → Own d n p.1 0 p.0
+  unfolding class_of_word same_class
+  own-extract = own-call d k.ExtractCalled (codes "EXTRACT") extract_form (given (λ p. e.Extract p.0 p.1) (both (plain (terminal (one_told stamp_part))) (past (of k.From) (inner_of d)))) (λ f. given (λ p. e.Extract p.0 p.1) (both (plain (terminal (one_told stamp_part))) (past (of k.From) (inner_of f)))) refl refl (λ f n p ts w. w)
+      (forms-given (codes "EXTRACT") (λ p. e.Extract p.0 p.1) (both (plain (terminal (one_told stamp_part))) (past (of k.From) (inner_of d))) (λ f. both (plain (terminal (one_told stamp_part))) (past (of k.From) (inner_of f))) d (λ p. part_text p.0 ++ (codes " FROM " ++ (shown p.1).text)) extract_is
+      (again-both (plain (terminal (one_told stamp_part))) (past (of k.From) (inner_of d)) (λ f. plain (terminal (one_told stamp_part))) (λ f. past (of k.From) (inner_of f)) d part_text (λ x. codes " FROM " ++ (shown x).text) starts_from
+      (again-terminal (one_told stamp_part) (λ f. one_told stamp_part) d part_text (λ s a g t f below. stamp_prints a))
+      (again-past (of k.From) (inner_of d) inner_of d (codes " FROM ") (λ x. (shown x).text) from_word inside)))
