@@ -148,7 +148,7 @@ between_blank y r = refl
 
 -- ---- IN
 
-list_is : (xs : List Expr) → list_text (λ x. at 7 (shown x)) xs ≡ joined (codes ", ") (map (at 7) (map shown xs))
+pub list_is : (xs : List Expr) → list_text (λ x. at 7 (shown x)) xs ≡ joined (codes ", ") (map (at 7) (map shown xs))
 list_is [] = refl
 list_is (x ∷ xs) = ap (λ l. at 7 (shown x) ++ l) (sym (joined_rest (codes ", ") (at 7) shown xs))
 

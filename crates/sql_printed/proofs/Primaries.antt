@@ -8,6 +8,7 @@ use Rattle.sql_tokens.specs.Keywords.{class_of_word}
 use Rattle.sql_tokens.specs.Cutting.{Symbol, cut, first_unfit, is_unfit}
 use Rattle.grammar_rules.specs.Rules.{Rule, Verdict, takes, faults, refuses, terminal, token, nothing, made, either, begun, sequence, preceded_by}
 use Rattle.grammar_rules.specs.Counted.{Counted, plain, one_more, given, both, after, before, past, maybe, many_from, chain}
+use Rattle.grammar_rules.specs.Spelled.{print_all}
 use Rattle.sql_grammar.specs.declared.tree.Expr.{Expr}
 use Rattle.sql_grammar.specs.declared.tree.Expr.TheVariants as e
 use Rattle.sql_grammar.specs.declared.tree.DatePart.{DatePart}
@@ -15,7 +16,7 @@ use Rattle.sql_grammar.specs.declared.tree.DatePart.TheVariants as part
 use Rattle.sql_grammar.specs.Marks.{Fault, too_many, class, of, one_told, told_by, text_in, stamp_part, date_part, Form, literal_text as text_form, truth, untruth, null_form, missing_form, coalesce_form, extract_form, date_add_form, substring_form, group_form}
 use Rattle.sql_grammar.specs.Expressions.{Counting, room_of, literal, word as keyword_word, opening, enclosed, call, listed, primary_of, primary, group, expression}
 use Rattle.sql_printed.specs.Shown.{Shown, shown, at, form, enclosed_text, literal_text, part_text, truth_text, joined, doubled}
-use Rattle.sql_printed.proofs.Telling.{is_clear, Starts, Cuts, Prints, IsWord, Word, Told, told-into, told-as}
+use Rattle.sql_printed.proofs.Telling.{is_clear, Starts, starts-all, Cuts, Prints, IsWord, Word, Told, told-into, told-as}
 use Rattle.sql_printed.proofs.Words.{is_word, comma_blank, keyword_blanks, if_true}
 use Rattle.sql_printed.proofs.Quotes.{cut_literal, undoubled_doubled}
 use Rattle.sql_printed.proofs.Names.{GoodToken, clear_words}
@@ -25,7 +26,7 @@ use Rattle.sql_printed.proofs.Listed.{list_text}
 use Rattle.sql_printed.proofs.Levels.{inner_of, rule_at, Own, own-group}
 use Rattle.sql_printed.proofs.Folds.{joined_rest, shown_text, shown_bool, shown_null, shown_missing, shown_coalesce, shown_extract, shown_date_add}
 use Rattle.sql_printed.proofs.Operators.{own-shown}
-use Rattle.sql_printed.proofs.Predicates.{text_prints, clear_quote}
+use Rattle.sql_printed.proofs.Predicates.{text_prints, clear_quote, list_is}
 use Rattle.sql_printed.proofs.Sentences.{word_taken}
 use Rattle.sql_printed.proofs.Calls.{own-call, forms-given}
 
@@ -158,3 +159,24 @@ module _ (d : ℕ) (inside : Again (inner_of d) inner_of d (λ x. (shown x).text
       (again-both (plain (terminal (one_told stamp_part))) (past (of k.From) (inner_of d)) (λ f. plain (terminal (one_told stamp_part))) (λ f. past (of k.From) (inner_of f)) d part_text (λ x. codes " FROM " ++ (shown x).text) starts_from
       (again-terminal (one_told stamp_part) (λ f. one_told stamp_part) d part_text (λ s a g t f below. stamp_prints a))
       (again-past (of k.From) (inner_of d) inner_of d (codes " FROM ") (λ x. (shown x).text) from_word inside)))
+
+starts_member : (x : Expr) → Starts (codes ", " ++ at 7 (shown x))
+unfolding is_clear
+starts_member x rest c = refl
+
+module _ (d : ℕ) (inside : Again (inner_of d) inner_of d (λ x. at 7 (shown x))) where
+  listed_again : Again (listed (inner_of d)) (λ f. listed (inner_of f)) d (list_text (λ x. at 7 (shown x)))
+  listed_again =
+      again-given (λ p. p.0 ∷ p.1) (both (inner_of d) (many_from (past (of k.Comma) (inner_of d)))) (λ f. both (inner_of f) (many_from (past (of k.Comma) (inner_of f)))) d (list_text (λ x. at 7 (shown x)))
+      (again-both (inner_of d) (many_from (past (of k.Comma) (inner_of d))) inner_of (λ f. many_from (past (of k.Comma) (inner_of f))) d (λ x. at 7 (shown x)) (print_all (λ x. codes ", " ++ at 7 (shown x)))
+      (starts-all (λ x. codes ", " ++ at 7 (shown x)) starts_member) inside
+      (again-many_from (past (of k.Comma) (inner_of d)) (λ f. past (of k.Comma) (inner_of f)) d (λ x. codes ", " ++ at 7 (shown x)) starts_member
+      (again-past (of k.Comma) (inner_of d) inner_of d (codes ", ") (λ x. at 7 (shown x)) comma_blank inside)))
+
+  coalesce_is : (xs : List Expr) → shown (e.Coalesce xs) ≡ form 0 (codes "COALESCE" ++ enclosed_text (list_text (λ x. at 7 (shown x)) xs))
+  coalesce_is xs = shown_coalesce xs ∙ ap (λ l. form 0 (codes "COALESCE(" ++ (l ++ codes ")"))) (sym (list_is xs))
+
+  pub own-coalesce : (n : ℕ) (p : Expr × ℕ) (ts : List Symbol) → AllGood ts → (primary_of (room_of d) (inner_of d) coalesce_form n).Spells p ts → Own d n p.1 0 p.0
+  unfolding class_of_word same_class
+  own-coalesce = own-call d k.CoalesceCalled (codes "COALESCE") coalesce_form (given e.Coalesce (listed (inner_of d))) (λ f. given e.Coalesce (listed (inner_of f))) refl refl (λ f n p ts w. w)
+      (forms-given (codes "COALESCE") e.Coalesce (listed (inner_of d)) (λ f. listed (inner_of f)) d (list_text (λ x. at 7 (shown x))) coalesce_is listed_again)
