@@ -13,18 +13,18 @@ use Rattle.sql_grammar.specs.declared.tree.Expr.{Expr}
 use Rattle.sql_grammar.specs.declared.tree.Expr.TheVariants as e
 use Rattle.sql_grammar.specs.declared.tree.DatePart.{DatePart}
 use Rattle.sql_grammar.specs.declared.tree.DatePart.TheVariants as part
-use Rattle.sql_grammar.specs.Marks.{Fault, too_many, class, of, one_told, told_by, text_in, stamp_part, date_part, Form, literal_text as text_form, truth, untruth, null_form, missing_form, coalesce_form, extract_form, date_add_form, substring_form, group_form}
+use Rattle.sql_grammar.specs.Marks.{Fault, too_many, class, of, one_told, told_by, text_in, stamp_part, date_part, is_for, Form, literal_text as text_form, truth, untruth, null_form, missing_form, coalesce_form, extract_form, date_add_form, substring_form, group_form}
 use Rattle.sql_grammar.specs.Expressions.{Counting, room_of, literal, word as keyword_word, opening, enclosed, call, listed, primary_of, primary, group, expression}
-use Rattle.sql_printed.specs.Shown.{Shown, shown, at, form, enclosed_text, literal_text, part_text, truth_text, joined, doubled}
-use Rattle.sql_printed.proofs.Telling.{is_clear, Starts, starts-all, Cuts, Prints, IsWord, Word, Told, told-into, told-as}
+use Rattle.sql_printed.specs.Shown.{Shown, shown, at, form, enclosed_text, literal_text, part_text, truth_text, joined, doubled, behind, substring_front}
+use Rattle.sql_printed.proofs.Telling.{is_clear, Starts, starts-all, Cuts, Prints, IsWord, Word, Told, told-into, told-as, told-past}
 use Rattle.sql_printed.proofs.Words.{is_word, comma_blank, keyword_blanks, if_true}
 use Rattle.sql_printed.proofs.Quotes.{cut_literal, undoubled_doubled}
 use Rattle.sql_printed.proofs.Names.{GoodToken, clear_words}
-use Rattle.sql_printed.proofs.Again.{AllGood, good_left, good_right, good_one, IsOne, OnePrints, IsTaken, IsCounted, taken_one, counted_one, told-one, Again, again-terminal, again-both, again-given, again-past, again-many_from, again-as}
+use Rattle.sql_printed.proofs.Again.{AllGood, good_left, good_right, good_one, IsOne, OnePrints, IsTaken, IsCounted, taken_one, counted_one, told-one, Again, again-terminal, again-both, again-given, again-past, again-many_from, again-maybe, again-as}
 use Rattle.sql_printed.proofs.Enclosed.{open_room, more_room}
 use Rattle.sql_printed.proofs.Listed.{list_text}
 use Rattle.sql_printed.proofs.Levels.{inner_of, rule_at, Own, own-group}
-use Rattle.sql_printed.proofs.Folds.{joined_rest, shown_text, shown_bool, shown_null, shown_missing, shown_coalesce, shown_extract, shown_date_add}
+use Rattle.sql_printed.proofs.Folds.{joined_rest, shown_text, shown_bool, shown_null, shown_missing, shown_option, shown_coalesce, shown_substring, shown_extract, shown_date_add}
 use Rattle.sql_printed.proofs.Operators.{own-shown}
 use Rattle.sql_printed.proofs.Predicates.{text_prints, clear_quote, list_is}
 use Rattle.sql_printed.proofs.Sentences.{word_taken}
@@ -180,3 +180,56 @@ module _ (d : ℕ) (inside : Again (inner_of d) inner_of d (λ x. at 7 (shown x)
   unfolding class_of_word same_class
   own-coalesce = own-call d k.CoalesceCalled (codes "COALESCE") coalesce_form (given e.Coalesce (listed (inner_of d))) (λ f. given e.Coalesce (listed (inner_of f))) refl refl (λ f n p ts w. w)
       (forms-given (codes "COALESCE") e.Coalesce (listed (inner_of d)) (λ f. listed (inner_of f)) d (list_text (λ x. at 7 (shown x))) coalesce_is listed_again)
+
+-- ---- SUBSTRING
+
+again-past_as : {A : Type 0} (from test : Symbol → Bool) (G : Counting A) (I : ℕ → Counting A) (d : ℕ) (front : List ℕ) (print : A → List ℕ) → Word test front → Again G I d print → Again (past from G) (λ f. past test (I f)) d (λ a. front ++ print a)
+again-past_as from test G I d front print w g n p ts good j =
+    told-past I d n p.1 p.0 (print p.0) (g n p j.right (good_right ts j.left j.right j.joined good) j.after) test front w
+
+abbrev count_text : Option Expr → List ℕ
+count_text count = behind (codes ", ") (shown_option count)
+
+starts_count : (o : Option Expr) → Starts (count_text o)
+unfolding is_clear
+starts_count None rest c = c
+starts_count (Some x) rest c = refl
+
+starts_start : (q : Expr × Option Expr) → Starts (codes ", " ++ ((shown q.0).text ++ count_text q.1))
+unfolding is_clear
+starts_start q rest c = refl
+
+abbrev substring_node : Expr × (Expr × Option Expr) → Expr
+substring_node p = e.Substring p.0 p.1.0 p.1.1
+
+abbrev substring_text : Expr × (Expr × Option Expr) → List ℕ
+substring_text p = (shown p.0).text ++ (codes ", " ++ ((shown p.1.0).text ++ count_text p.1.1))
+
+substring_is : (p : Expr × (Expr × Option Expr)) → shown (substring_node p) ≡ form 0 (codes "SUBSTRING" ++ enclosed_text (substring_text p))
+unfolding substring_front
+substring_is p =
+    shown_substring p.0 p.1.0 p.1.1 ∙ ap (λ l. form 0 (codes "SUBSTRING(" ++ l))
+    (ap (λ l. (shown p.0).text ++ (codes ", " ++ l)) (sym (append_assoc (shown p.1.0).text (count_text p.1.1) (codes ")")))
+    ∙ (ap (λ l. (shown p.0).text ++ l) (sym (append_assoc (codes ", ") ((shown p.1.0).text ++ count_text p.1.1) (codes ")")))
+    ∙ sym (append_assoc (shown p.0).text (codes ", " ++ ((shown p.1.0).text ++ count_text p.1.1)) (codes ")"))))
+
+abbrev parts_by : (Symbol → Bool) → (Symbol → Bool) → ℕ → Counting (Expr × (Expr × Option Expr))
+parts_by a b f = both (inner_of f) (past a (both (inner_of f) (maybe (past b (inner_of f)))))
+
+module _ (d : ℕ) (inside : Again (inner_of d) inner_of d (λ x. (shown x).text)) where
+  parts_again : (a b : Symbol → Bool) → Again (parts_by a b d) (parts_by (of k.Comma) (of k.Comma)) d substring_text
+  parts_again a b =
+      again-both (inner_of d) (past a (both (inner_of d) (maybe (past b (inner_of d))))) inner_of (λ f. past (of k.Comma) (both (inner_of f) (maybe (past (of k.Comma) (inner_of f))))) d (λ x. (shown x).text) (λ q. codes ", " ++ ((shown q.0).text ++ count_text q.1)) starts_start inside
+      (again-past_as a (of k.Comma) (both (inner_of d) (maybe (past b (inner_of d)))) (λ f. both (inner_of f) (maybe (past (of k.Comma) (inner_of f)))) d (codes ", ") (λ q. (shown q.0).text ++ count_text q.1) comma_blank
+      (again-both (inner_of d) (maybe (past b (inner_of d))) inner_of (λ f. maybe (past (of k.Comma) (inner_of f))) d (λ x. (shown x).text) count_text starts_count inside
+      (again-maybe (past b (inner_of d)) (λ f. past (of k.Comma) (inner_of f)) d count_text refl
+      (again-past_as b (of k.Comma) (inner_of d) inner_of d (codes ", ") (λ x. (shown x).text) comma_blank inside))))
+
+  pub own-substring : (n : ℕ) (p : Expr × ℕ) (ts : List Symbol) → AllGood ts → (primary_of (room_of d) (inner_of d) substring_form n).Spells p ts → Own d n p.1 0 p.0
+  unfolding class_of_word same_class
+  own-substring n p ts good (true, w) =
+      own-call d k.SubstringCalled (codes "SUBSTRING") substring_form (given substring_node (parts_by (of k.Comma) (of k.Comma) d)) (λ f. given substring_node (parts_by (of k.Comma) (of k.Comma) f)) refl refl (λ f i q us v. (true, v))
+      (forms-given (codes "SUBSTRING") substring_node (parts_by (of k.Comma) (of k.Comma) d) (parts_by (of k.Comma) (of k.Comma)) d substring_text substring_is (parts_again (of k.Comma) (of k.Comma))) n p ts good w
+  own-substring n p ts good (false, w) =
+      own-call d k.SubstringCalled (codes "SUBSTRING") substring_form (given substring_node (parts_by (of k.From) (λ s. is_for (class s)) d)) (λ f. given substring_node (parts_by (of k.Comma) (of k.Comma) f)) refl refl (λ f i q us v. (true, v))
+      (forms-given (codes "SUBSTRING") substring_node (parts_by (of k.From) (λ s. is_for (class s)) d) (parts_by (of k.Comma) (of k.Comma)) d substring_text substring_is (parts_again (of k.From) (λ s. is_for (class s)))) n p ts good w
