@@ -233,3 +233,75 @@ module _ (d : ℕ) (inside : Again (inner_of d) inner_of d (λ x. (shown x).text
   own-substring n p ts good (false, w) =
       own-call d k.SubstringCalled (codes "SUBSTRING") substring_form (given substring_node (parts_by (of k.From) (λ s. is_for (class s)) d)) (λ f. given substring_node (parts_by (of k.Comma) (of k.Comma) f)) refl refl (λ f i q us v. (true, v))
       (forms-given (codes "SUBSTRING") substring_node (parts_by (of k.From) (λ s. is_for (class s)) d) (parts_by (of k.Comma) (of k.Comma)) d substring_text substring_is (parts_again (of k.From) (λ s. is_for (class s)))) n p ts good w
+
+-- ---- DATE_ADD
+
+-- a part without a time zone, from whose word it was told
+data IsDatePart : DatePart → Type 0 where
+  is_year : IsDatePart part.Year
+  is_month : IsDatePart part.Month
+  is_day : IsDatePart part.Day
+  is_hour : IsDatePart part.Hour
+  is_minute : IsDatePart part.Minute
+  is_second : IsDatePart part.Second
+
+date_told : (c : Class) (p : DatePart) → told_by {A = DatePart} (date_part c) ≡ takes p → IsDatePart p
+date_told k.Year p x = let i : part.Year ≡ p = cc in subst IsDatePart i is_year
+date_told k.YearCalled p x = let i : part.Year ≡ p = cc in subst IsDatePart i is_year
+date_told k.Month p x = let i : part.Month ≡ p = cc in subst IsDatePart i is_month
+date_told k.MonthCalled p x = let i : part.Month ≡ p = cc in subst IsDatePart i is_month
+date_told k.Day p x = let i : part.Day ≡ p = cc in subst IsDatePart i is_day
+date_told k.DayCalled p x = let i : part.Day ≡ p = cc in subst IsDatePart i is_day
+date_told k.Hour p x = let i : part.Hour ≡ p = cc in subst IsDatePart i is_hour
+date_told k.HourCalled p x = let i : part.Hour ≡ p = cc in subst IsDatePart i is_hour
+date_told k.Minute p x = let i : part.Minute ≡ p = cc in subst IsDatePart i is_minute
+date_told k.MinuteCalled p x = let i : part.Minute ≡ p = cc in subst IsDatePart i is_minute
+date_told k.Second p x = let i : part.Second ≡ p = cc in subst IsDatePart i is_second
+date_told k.SecondCalled p x = let i : part.Second ≡ p = cc in subst IsDatePart i is_second
+date_told _ p x = absurd (let no : ⊥ = cc in no)
+
+date_prints : (p : DatePart) → IsDatePart p → OnePrints (one_told date_part) p (part_text p)
+unfolding class_of_word
+date_prints part.Year is_year place rest c = part_looks date_part part.Year (codes "YEAR") rest place refl (λ b. elim b as (λ b. told_by (date_part (class_of_word b (codes "YEAR"))) ≡ takes part.Year) [ true ↦ refl | false ↦ refl ]) (clear_words rest c)
+date_prints part.Month is_month place rest c = part_looks date_part part.Month (codes "MONTH") rest place refl (λ b. elim b as (λ b. told_by (date_part (class_of_word b (codes "MONTH"))) ≡ takes part.Month) [ true ↦ refl | false ↦ refl ]) (clear_words rest c)
+date_prints part.Day is_day place rest c = part_looks date_part part.Day (codes "DAY") rest place refl (λ b. elim b as (λ b. told_by (date_part (class_of_word b (codes "DAY"))) ≡ takes part.Day) [ true ↦ refl | false ↦ refl ]) (clear_words rest c)
+date_prints part.Hour is_hour place rest c = part_looks date_part part.Hour (codes "HOUR") rest place refl (λ b. elim b as (λ b. told_by (date_part (class_of_word b (codes "HOUR"))) ≡ takes part.Hour) [ true ↦ refl | false ↦ refl ]) (clear_words rest c)
+date_prints part.Minute is_minute place rest c = part_looks date_part part.Minute (codes "MINUTE") rest place refl (λ b. elim b as (λ b. told_by (date_part (class_of_word b (codes "MINUTE"))) ≡ takes part.Minute) [ true ↦ refl | false ↦ refl ]) (clear_words rest c)
+date_prints part.Second is_second place rest c = part_looks date_part part.Second (codes "SECOND") rest place refl (λ b. elim b as (λ b. told_by (date_part (class_of_word b (codes "SECOND"))) ≡ takes part.Second) [ true ↦ refl | false ↦ refl ]) (clear_words rest c)
+date_prints part.TimezoneHour x place rest c = elim x [ ]
+date_prints part.TimezoneMinute x place rest c = elim x [ ]
+
+starts_both : (q : Expr × Expr) → Starts (codes ", " ++ ((shown q.0).text ++ (codes ", " ++ (shown q.1).text)))
+unfolding is_clear
+starts_both q rest c = refl
+
+abbrev date_add_node : DatePart × (Expr × Expr) → Expr
+date_add_node p = e.DateAdd p.0 p.1.0 p.1.1
+
+abbrev date_add_text : DatePart × (Expr × Expr) → List ℕ
+date_add_text p = part_text p.0 ++ (codes ", " ++ ((shown p.1.0).text ++ (codes ", " ++ (shown p.1.1).text)))
+
+date_add_is : (p : DatePart × (Expr × Expr)) → shown (date_add_node p) ≡ form 0 (codes "DATE_ADD" ++ enclosed_text (date_add_text p))
+date_add_is p =
+    shown_date_add p.0 p.1.0 p.1.1 ∙ ap (λ l. form 0 (codes "DATE_ADD(" ++ l))
+    (ap (λ l. part_text p.0 ++ (codes ", " ++ ((shown p.1.0).text ++ l))) (sym (append_assoc (codes ", ") (shown p.1.1).text (codes ")")))
+    ∙ (ap (λ l. part_text p.0 ++ (codes ", " ++ l)) (sym (append_assoc (shown p.1.0).text (codes ", " ++ (shown p.1.1).text) (codes ")")))
+    ∙ (ap (λ l. part_text p.0 ++ l) (sym (append_assoc (codes ", ") ((shown p.1.0).text ++ (codes ", " ++ (shown p.1.1).text)) (codes ")")))
+    ∙ sym (append_assoc (part_text p.0) (codes ", " ++ ((shown p.1.0).text ++ (codes ", " ++ (shown p.1.1).text))) (codes ")")))))
+
+abbrev date_parts : ℕ → Counting (DatePart × (Expr × Expr))
+date_parts f = both (plain (terminal (one_told date_part))) (past (of k.Comma) (both (inner_of f) (past (of k.Comma) (inner_of f))))
+
+module _ (d : ℕ) (inside : Again (inner_of d) inner_of d (λ x. (shown x).text)) where
+  dates_again : Again (date_parts d) date_parts d date_add_text
+  dates_again =
+      again-both (plain (terminal (one_told date_part))) (past (of k.Comma) (both (inner_of d) (past (of k.Comma) (inner_of d)))) (λ f. plain (terminal (one_told date_part))) (λ f. past (of k.Comma) (both (inner_of f) (past (of k.Comma) (inner_of f)))) d part_text (λ q. codes ", " ++ ((shown q.0).text ++ (codes ", " ++ (shown q.1).text))) starts_both
+      (again-terminal (one_told date_part) (λ f. one_told date_part) d part_text (λ s a g t f below. date_prints a (date_told (class s) a t)))
+      (again-past (of k.Comma) (both (inner_of d) (past (of k.Comma) (inner_of d))) (λ f. both (inner_of f) (past (of k.Comma) (inner_of f))) d (codes ", ") (λ q. (shown q.0).text ++ (codes ", " ++ (shown q.1).text)) comma_blank
+      (again-both (inner_of d) (past (of k.Comma) (inner_of d)) inner_of (λ f. past (of k.Comma) (inner_of f)) d (λ x. (shown x).text) (λ x. codes ", " ++ (shown x).text) starts_next inside
+      (again-past (of k.Comma) (inner_of d) inner_of d (codes ", ") (λ x. (shown x).text) comma_blank inside)))
+
+  pub own-date_add : (n : ℕ) (p : Expr × ℕ) (ts : List Symbol) → AllGood ts → (primary_of (room_of d) (inner_of d) date_add_form n).Spells p ts → Own d n p.1 0 p.0
+  unfolding class_of_word same_class
+  own-date_add = own-call d k.DateAddCalled (codes "DATE_ADD") date_add_form (given date_add_node (date_parts d)) (λ f. given date_add_node (date_parts f)) refl refl (λ f n p ts w. w)
+      (forms-given (codes "DATE_ADD") date_add_node (date_parts d) date_parts d date_add_text date_add_is dates_again)
