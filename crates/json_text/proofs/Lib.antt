@@ -13,3 +13,6 @@ pub mod Skips
 pub mod Walking
 pub mod Quoted
 pub mod Membered
+pub mod Reading
+pub mod Lanes
+pub mod Squeezing

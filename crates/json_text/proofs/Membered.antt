@@ -1,6 +1,7 @@
 -- The member that comes next.
 use Rattle.std.proofs.Common.{◌≡◌, ℕ, zero, suc, ◌+◌, ◌-◌, ◌<◌, ◌≤◌, Bool, true, false, cond, ◌==◌, List, [], ◌∷◌, ◌++◌, length, take, drop, get_or, lit<, add-one, length-drop, length-append, refl, sym, ◌∙◌, ap, subst, arith}
-use Rattle.std.specs.Prelude.{slice_range, slice_get, Some}
+use Rattle.std.specs.Prelude.{slice_range, slice_get, Some, None}
+use Rattle.std.specs.List.{find}
 use Rattle.text_view.specs.JsonString.{unescaped_text}
 use Rattle.std.proofs.Math.Bridge.{le_prop}
 use Rattle.std.proofs.Math.Logic.{∥∥₁_elim, ∥∥₁_map}
@@ -14,9 +15,9 @@ use Rattle.json_text.specs.Trimmed.{skip_blanks}
 use Rattle.json_text.specs.Skipped.{string_rest}
 use Rattle.json_text.specs.Nodes.{IsNode, Spells}
 use Rattle.json_text.specs.Walks.{Cursor, comma_place}
-use Rattle.json_text.specs.Naming.{Named, value_place, members_from, members_of, IsClosed, no_bytes, at_brace, Coming, member_due, members_over, IsFirstMember, SplitMember, IsMemberWalk, IsMemberAt, object_start}
+use Rattle.json_text.specs.Naming.{Named, value_place, members_from, members_of, IsClosed, no_bytes, at_brace, Coming, member_due, members_over, IsFirstMember, IsNextMember, SplitMember, IsMemberWalk, IsMemberAt, IsPlacedValueOf, object_start}
 use Rattle.json_text.proofs.Prints.{skip_app}
-use Rattle.json_text.proofs.Skips.{Stops, inside_rest}
+use Rattle.json_text.proofs.Skips.{inside_rest}
 use Rattle.json_text.proofs.Walking.{behind_drop, byte_at, Head, Walked, met, comma_yes, drop_all, is_node}
 
 -- a walk that found a name's opening quotation mark, the place behind its closing one, and the colon
@@ -83,11 +84,6 @@ name_met bytes at quote close colon before name gap behind w u hb hn hg e =
       begins = IsCharBoundary-after_ascii bytes quote u q.0 low;
       ends = IsCharBoundary-before_ascii bytes (close - 1) m.0 low_end;
     }
-
-members_stop : (ms : Members) (rest : List ℕ) → Stops (print_members ms rest)
-unfolding print
-members_stop no_members rest = refl
-members_stop (more_members m ms) rest = refl
 
 members_head : (ms : Members) (rest : List ℕ) → Head (print_members ms rest)
 unfolding print
@@ -308,3 +304,46 @@ pub member_is_at : (items : List Named) (i k place : ℕ) (name node text : List
 member_is_at items i k place name node text next e f t =
     let whole : drop k items ≡ record { name = name; place = place; value = f.first } ∷ f.others = ap (λ n. drop n items) (sym e) ∙ f.whole in
     rw (at_index items f.others k (record { name = name; place = place; value = f.first }) whole) (t, f.same)
+
+pub next_member : (items : List Named) (name text : List ℕ) (place : ℕ) (node : List ℕ) (next : Cursor) → IsFirstMember items name place node next
+    → text ≡ unescaped_text (chars name) → IsNextMember items text place node next
+next_member items name text place node next f t = record {
+  first = record { name = name; place = place; value = f.first };
+  others = f.others;
+  whole = f.whole;
+  named = t;
+  placed = refl;
+  same = f.same;
+  ahead = f.ahead;
+}
+
+-- ---- a name
+
+-- the members that a walk has ahead hold the first one that passes the test
+pub record StillFinds (test : Named → Bool) (walk : Cursor) (all : List Named) : Type 0 where
+  pub items : List Named
+  pub ahead : Coming walk items
+  pub same : find test items ≡ find test all
+
+pub finds_all : (test : Named → Bool) (walk : Cursor) (all : List Named) → Coming walk all → StillFinds test walk all
+finds_all test walk all x = record { items = all; ahead = x; same = refl }
+
+pub finds_on : (test : Named → Bool) (walk next : Cursor) (all : List Named) (name : List ℕ) (place : ℕ) (node : List ℕ) → (s : StillFinds test walk all)
+    → IsFirstMember s.items name place node next → ((m : Named) → m.name ≡ name → test m ≡ false) → StillFinds test next all
+finds_on test walk next all name place node s f other =
+    let first : Named = record { name = name; place = place; value = f.first } in
+    record {
+      items = f.others;
+      ahead = f.ahead;
+      same = sym (ap (find test) f.whole ∙ ap (λ b. cond b (Some first) (find test f.others)) (other first refl)) ∙ s.same;
+    }
+
+pub found_here : (test : Named → Bool) (walk next : Cursor) (all : List Named) (name : List ℕ) (place : ℕ) (node : List ℕ) → (s : StillFinds test walk all)
+    → IsFirstMember s.items name place node next → ((m : Named) → m.name ≡ name → test m ≡ true) → IsPlacedValueOf (find test all) place node
+found_here test walk next all name place node s f here =
+    let first : Named = record { name = name; place = place; value = f.first } in
+    let e : find test all ≡ Some first = sym s.same ∙ ap (find test) f.whole ∙ ap (λ b. cond b (Some first) (find test f.others)) (here first refl) in
+    subst (λ o. IsPlacedValueOf o place node) (sym e) (refl, f.same)
+
+pub found_none : (test : Named → Bool) (walk : Cursor) (all : List Named) → (s : StillFinds test walk all) → s.items ≡ [] → find test all ≡ None
+found_none test walk all s e = sym s.same ∙ ap (find test) e

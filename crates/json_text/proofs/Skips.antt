@@ -1,9 +1,12 @@
 -- Skipping a value leaves what stands behind it.
-use Rattle.std.proofs.Common.{◌≡◌, ◌≢◌, ℕ, zero, suc, ◌<◌, Bool, true, false, cond, ◌&&◌, ◌==◌, nat_lt, List, [], ◌∷◌, ◌++◌, length, drop, get_or, ◌+◌, add-one, drop-cons, refl, sym, ◌∙◌, ap, subst, arith}
+use Rattle.std.proofs.Common.{◌≡◌, ◌≢◌, ℕ, zero, suc, ◌<◌, Bool, true, false, cond, ◌&&◌, ◌==◌, nat_lt, List, [], ◌∷◌, ◌++◌, length, drop, get_or, ◌+◌, add-one, one-add, drop-cons, refl, sym, ◌∙◌, ap, subst, arith}
 use Rattle.std.specs.Char.{digit_value}
 use Rattle.std.proofs.lemmas.Bool.Decides.{nat_tests}
 use Rattle.text_view.specs.JsonString.{Hex, is_hex, Piece, unescaped, short, code, pair, ArePieces, print_pieces}
 use Rattle.json_text.specs.Grammar.{Json, null, truth, number, string, empty_array, array, empty_object, object, Element, element, Elements, no_elements, more_elements, Member, member, Members, no_members, more_members, Number, unsigned, negative, print_number, IsNumber, Int, zero_int, nonzero_int, print_int, IsInt, Frac, no_frac, frac, print_frac, IsFrac, Exp, no_exp, unsigned_exp, signed_exp, print_exp, IsExp, AreDigits, print, print_element, print_elements, print_member, print_members, IsValue, IsElement, AreElements, IsMember, AreMembers, AreBlanks, IsInside, is_blank, is_digit, is_nonzero_digit, is_e, is_sign}
+use Rattle.std.specs.List.{prefix_len}
+use Rattle.json_text.specs.Runs.{is_plain}
+use Rattle.json_text.proofs.Reading.{drop_more}
 use Rattle.json_text.specs.Skipped.{string_rest, is_open, is_close, outside, inside, skip, is_stop, token_rest, value_rest}
 
 -- ---- strings
@@ -21,10 +24,16 @@ skip_string n false (c ∷ cs) = by_quote (c == 34) (skip_string n (c == 92) cs)
 string_byte : (c : ℕ) (cs : List ℕ) → (c == 34) ≡ false → (c == 92) ≡ false → string_rest false (c ∷ cs) ≡ string_rest false cs
 string_byte c cs q s = rw (q, s) refl
 
-no_mark : (c : ℕ) → c ≢ 34 → c ≢ 92 → ((c == 34) ≡ false) × ((c == 92) ≡ false)
+plain_quote : (c : ℕ) → is_plain c ≡ true → (c == 34) ≡ false
+plain_quote c h = grind (arith, nat_tests)
+
+plain_solidus : (c : ℕ) → is_plain c ≡ true → (c == 92) ≡ false
+plain_solidus c h = grind (arith, nat_tests)
+
+pub no_mark : (c : ℕ) → c ≢ 34 → c ≢ 92 → ((c == 34) ≡ false) × ((c == 92) ≡ false)
 no_mark c q s = (grind (arith, nat_tests), grind (arith, nat_tests))
 
-hex_no_mark : (c : ℕ) → nat_lt (digit_value c) 16 ≡ true → ((c == 34) ≡ false) × ((c == 92) ≡ false)
+pub hex_no_mark : (c : ℕ) → nat_lt (digit_value c) 16 ≡ true → ((c == 34) ≡ false) × ((c == 92) ≡ false)
 hex_no_mark c h = (by_value 34 (c == 34) refl (λ x. clash x), by_value 92 (c == 92) refl (λ x. clash x))
   where
     clash : false ≡ true → ⊥
@@ -69,6 +78,24 @@ pieces_rest (pair x y ∷ ps) rest h =
 pub inside_rest : (raw rest : List ℕ) → IsInside raw → string_rest false (raw ++ 34 ∷ rest) ≡ rest
 inside_rest raw rest x = ap (λ l. string_rest false (l ++ 34 ∷ rest)) x.spelled ∙ pieces_rest x.pieces rest x.valid
 
+-- a run of bytes that stand for themselves
+plain_step : (c : ℕ) (cs : List ℕ) (k : ℕ) (b : Bool) → is_plain c ≡ b → string_rest false cs ≡ string_rest false (drop k cs)
+    → string_rest false (c ∷ cs) ≡ string_rest false (drop (cond b (1 + k) 0) (c ∷ cs))
+plain_step c cs k true h e =
+    string_byte c cs (plain_quote c h) (plain_solidus c h) ∙ e ∙ ap (λ n. string_rest false (drop n (c ∷ cs))) (sym (one-add k))
+plain_step c cs k false h e = refl
+
+plain_run : (cs : List ℕ) → string_rest false cs ≡ string_rest false (drop (prefix_len is_plain cs) cs)
+plain_run [] = refl
+plain_run (c ∷ cs) = plain_step c cs (prefix_len is_plain cs) (is_plain c) refl (plain_run cs)
+
+pub string_run : (bytes : List ℕ) (from at : ℕ) → at ≡ from + prefix_len is_plain (drop from bytes) → string_rest false (drop at bytes) ≡ string_rest false (drop from bytes)
+string_run bytes from at e =
+    ap (λ k. string_rest false (drop k bytes)) e ∙ ap (string_rest false) (sym (drop_more bytes from (prefix_len is_plain (drop from bytes)))) ∙ sym (plain_run (drop from bytes))
+
+pub escaped_byte : (bytes : List ℕ) (at : ℕ) → at < length bytes → string_rest false (drop (at + 1) bytes) ≡ string_rest true (drop at bytes)
+escaped_byte bytes at h = ap (λ k. string_rest false (drop k bytes)) (add-one at) ∙ sym (ap (string_rest true) (drop-cons bytes at 0 h))
+
 -- ---- bytes of tokens and blanks
 
 -- neither a quotation mark nor a bracket
@@ -101,7 +128,7 @@ e_goes c h = grind (arith, nat_tests)
 sign_goes : (c : ℕ) → is_sign c ≡ true → is_stop c ≡ false
 sign_goes c h = grind (arith, nat_tests)
 
-nonzero_digit : (c : ℕ) → is_nonzero_digit c ≡ true → is_digit c ≡ true
+pub nonzero_digit : (c : ℕ) → is_nonzero_digit c ≡ true → is_digit c ≡ true
 nonzero_digit c h = grind (arith, nat_tests)
 
 skip_blanks_all : (n : ℕ) (bs rest : List ℕ) → AreBlanks bs → skip n outside (bs ++ rest) ≡ skip n outside rest

@@ -11,7 +11,7 @@ use Rattle.json_text.specs.Texts.{levels}
 use Rattle.json_text.specs.Trimmed.{skip_blanks}
 use Rattle.json_text.specs.Skipped.{value_rest, is_close}
 use Rattle.json_text.specs.Nodes.{IsNode, Spells}
-use Rattle.json_text.specs.Walks.{Placed, items_from, elements_of, Cursor, Ahead, due, over, IsOver, at_end, at_bracket, IsFirst, Split, comma_place, IsWalk, IsAt, walk_start}
+use Rattle.json_text.specs.Walks.{Placed, items_from, elements_of, Cursor, Ahead, due, over, IsOver, at_end, at_bracket, IsFirst, Split, comma_place, IsWalk, IsAt, bytes_left, walk_start}
 use Rattle.json_text.proofs.Prints.{skip_app, value_front, value_front_apart}
 use Rattle.json_text.proofs.Skips.{Stops, value_passed}
 use Rattle.json_text.proofs.Trims.{blank_ascii}
@@ -97,19 +97,9 @@ head_boundary s k h x =
 
 -- ---- the next element
 
-elements_stop : (es : Elements) (rest : List ℕ) → Stops (print_elements es rest)
-unfolding print
-elements_stop no_elements rest = refl
-elements_stop (more_elements x xs) rest = refl
-
 pub blanks_stop : (bs rest : List ℕ) → AreBlanks bs → Stops rest → Stops (bs ++ rest)
 blanks_stop [] rest h s = s
 blanks_stop (b ∷ bs) rest h s = ap (λ t. t || b == 44 || is_close b) h.0
-
-elements_front : (es : Elements) (rest : List ℕ) → skip_blanks (print_elements es rest) ≡ print_elements es rest
-unfolding print
-elements_front no_elements rest = refl
-elements_front (more_elements x xs) rest = refl
 
 elements_head : (es : Elements) (rest : List ℕ) → Head (print_elements es rest)
 unfolding print
@@ -318,6 +308,10 @@ module _ (text : List ℕ) (at start end next : ℕ) (f : (items : List Placed) 
   part_first cursor node e n items x =
       let y : Ahead (record { text = text; at = at }) items = subst (λ c. Ahead c items) (sym e) x in
       subst (λ t. IsFirst items start t (record { text = text; at = next })) (sym n) (f items y).first
+
+pub walk_shorter : (text : List ℕ) (at next : ℕ) (cursor : Cursor) → record { text = text; at = at } ≡ cursor → at < next → next ≤ length text
+    → length text - next < bytes_left cursor
+walk_shorter text at next cursor e after within = subst (λ k. length text - next < bytes_left k) e (omega arith)
 
 -- ---- where a walk begins
 

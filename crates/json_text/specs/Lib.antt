@@ -1,8 +1,10 @@
+pub mod Compact
 pub mod Grammar
 pub mod Judged
 pub mod Machine
 pub mod Naming
 pub mod Nodes
+pub mod Runs
 pub mod Skipped
 pub mod Texts
 pub mod Trimmed

@@ -129,36 +129,49 @@ colon_move Blank = To ColonDue
 colon_move Colon = To ValueDue
 colon_move _ = Refuse
 
+-- how far a number is read with one byte more
+abbrev pub number_next : Digits → Class → Option Digits
+number_next AfterMinus Zero = Some AfterZero
+number_next AfterMinus Nonzero = Some InInt
+number_next AfterZero Point = Some AfterPoint
+number_next AfterZero LetterE = Some AfterE
+number_next InInt Zero = Some InInt
+number_next InInt Nonzero = Some InInt
+number_next InInt Point = Some AfterPoint
+number_next InInt LetterE = Some AfterE
+number_next AfterPoint Zero = Some InFrac
+number_next AfterPoint Nonzero = Some InFrac
+number_next InFrac Zero = Some InFrac
+number_next InFrac Nonzero = Some InFrac
+number_next InFrac LetterE = Some AfterE
+number_next AfterE Zero = Some InExp
+number_next AfterE Nonzero = Some InExp
+number_next AfterE Minus = Some AfterSign
+number_next AfterE Plus = Some AfterSign
+number_next AfterSign Zero = Some InExp
+number_next AfterSign Nonzero = Some InExp
+number_next InExp Zero = Some InExp
+number_next InExp Nonzero = Some InExp
+number_next _ _ = None
+
+abbrev pub may_end_number : Digits → Bool
+may_end_number AfterZero = true
+may_end_number InInt = true
+may_end_number InFrac = true
+may_end_number InExp = true
+may_end_number _ = false
+
+-- a byte that isn't the number's
+abbrev pub behind_number : Bool → Around → Class → Move
+behind_number true around k = after_move around k
+behind_number false around k = Refuse
+
+abbrev pub digits_move : Option Digits → Digits → Around → Class → Move
+digits_move (Some d) from around k = To (InNumber d)
+digits_move None from around k = behind_number (may_end_number from) around k
+
 abbrev pub number_move : Digits → Around → Class → Move
-number_move AfterMinus around Zero = To (InNumber AfterZero)
-number_move AfterMinus around Nonzero = To (InNumber InInt)
-number_move AfterMinus around _ = Refuse
-number_move AfterZero around Point = To (InNumber AfterPoint)
-number_move AfterZero around LetterE = To (InNumber AfterE)
-number_move AfterZero around k = after_move around k
-number_move InInt around Zero = To (InNumber InInt)
-number_move InInt around Nonzero = To (InNumber InInt)
-number_move InInt around Point = To (InNumber AfterPoint)
-number_move InInt around LetterE = To (InNumber AfterE)
-number_move InInt around k = after_move around k
-number_move AfterPoint around Zero = To (InNumber InFrac)
-number_move AfterPoint around Nonzero = To (InNumber InFrac)
-number_move AfterPoint around _ = Refuse
-number_move InFrac around Zero = To (InNumber InFrac)
-number_move InFrac around Nonzero = To (InNumber InFrac)
-number_move InFrac around LetterE = To (InNumber AfterE)
-number_move InFrac around k = after_move around k
-number_move AfterE around Zero = To (InNumber InExp)
-number_move AfterE around Nonzero = To (InNumber InExp)
-number_move AfterE around Minus = To (InNumber AfterSign)
-number_move AfterE around Plus = To (InNumber AfterSign)
-number_move AfterE around _ = Refuse
-number_move AfterSign around Zero = To (InNumber InExp)
-number_move AfterSign around Nonzero = To (InNumber InExp)
-number_move AfterSign around _ = Refuse
-number_move InExp around Zero = To (InNumber InExp)
-number_move InExp around Nonzero = To (InNumber InExp)
-number_move InExp around k = after_move around k
+number_move d around k = digits_move (number_next d k) d around k
 
 abbrev pub letter_move : Bool → Mode → Move
 letter_move true m = To m
@@ -209,13 +222,6 @@ abbrev pub around_of : List Bool → Around
 around_of [] = Outside
 around_of (true ∷ nest) = InArray
 around_of (false ∷ nest) = InObject
-
-abbrev pub may_end_number : Digits → Bool
-may_end_number AfterZero = true
-may_end_number InInt = true
-may_end_number InFrac = true
-may_end_number InExp = true
-may_end_number _ = false
 
 abbrev pub may_end_value : Mode → Bool
 may_end_value Ended = true

@@ -1,7 +1,8 @@
 -- The members of an object in order, each with its name and its value's place, and a walk over them.
-use Rattle.std.specs.Prelude.{◌≡◌, ℕ, ◌+◌, ◌≤◌, List, [], ◌∷◌, ◌++◌, length, drop, slice_range, ◌==◌, if◌then◌else◌, Option, None, Some}
+use Rattle.std.specs.Prelude.{◌≡◌, ℕ, ◌+◌, ◌≤◌, Bool, true, false, List, [], ◌∷◌, ◌++◌, length, drop, slice_range, ◌==◌, if◌then◌else◌, Option, None, Some}
 use Rattle.text_view.specs.JsonString.{unescaped_text}
-use Rattle.std.specs.Str.{IsCharBoundary, chars}
+use Rattle.std.specs.List.{find}
+use Rattle.std.specs.Str.{IsCharBoundary, chars, bytes_eq, str_eq_ignore_ascii_case}
 use Rattle.json_text.specs.Grammar.{Json, object, element, Member, member, Members, no_members, more_members, print, print_member, print_members, IsMember, AreMembers, AreBlanks}
 use Rattle.json_text.specs.Texts.{levels}
 use Rattle.json_text.specs.Nodes.{IsNode}
@@ -75,3 +76,38 @@ object_start (c ∷ cs) = if c == 123 then 1 else length (c ∷ cs)
 abbrev pub IsMemberAt : Option Named → List ℕ → List ℕ → Type 0
 IsMemberAt None text node = ⊥
 IsMemberAt (Some m) text node = (text ≡ unescaped_text (chars m.name)) × (node ≡ print m.value [])
+
+-- ---- a member by its name
+
+-- whether a name's characters are the wanted ones: exactly, or but for the case of ASCII letters
+abbrev pub same_name : Bool → List ℕ → List ℕ → Bool
+same_name true wanted name = bytes_eq name wanted
+same_name false wanted name = str_eq_ignore_ascii_case name wanted
+
+-- whether a member has the wanted name, once its escapes are undone
+abbrev pub is_named : Bool → List ℕ → Named → Bool
+is_named exact wanted m = same_name exact wanted (unescaped_text (chars m.name))
+
+-- the first member of that name
+abbrev pub member_named : Bool → List ℕ → Json → Option Named
+member_named exact wanted tree = find (is_named exact wanted) (members_of tree)
+
+-- the node is the member's value
+abbrev pub IsValueOf : Option Named → List ℕ → Type 0
+IsValueOf None node = ⊥
+IsValueOf (Some m) node = node ≡ print m.value []
+
+-- the node is the member's value, and stands at that place
+abbrev pub IsPlacedValueOf : Option Named → ℕ → List ℕ → Type 0
+IsPlacedValueOf None place node = ⊥
+IsPlacedValueOf (Some m) place node = (place ≡ m.place) × (node ≡ print m.value [])
+
+-- text, place and node are the name and the value of the next member
+pub record IsNextMember (items : List Named) (text : List ℕ) (place : ℕ) (node : List ℕ) (next : Cursor) : Type 0 where
+  pub first : Named
+  pub others : List Named
+  pub whole : items ≡ first ∷ others
+  pub named : text ≡ unescaped_text (chars first.name)
+  pub placed : place ≡ first.place
+  pub same : node ≡ print first.value []
+  pub ahead : Coming next others

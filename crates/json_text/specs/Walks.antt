@@ -1,5 +1,5 @@
 -- The elements of an array in order, each with its place, and a walk over them.
-use Rattle.std.specs.Prelude.{◌≡◌, ℕ, ◌+◌, ◌≤◌, List, [], ◌∷◌, ◌++◌, length, drop, Option, None, Some, slice_index, slice_range, nat_lt, ◌==◌, ◌&&◌, if◌then◌else◌}
+use Rattle.std.specs.Prelude.{◌≡◌, ℕ, ◌+◌, ◌-◌, ◌≤◌, List, [], ◌∷◌, ◌++◌, length, drop, Option, None, Some, slice_index, slice_range, nat_lt, ◌==◌, ◌&&◌, if◌then◌else◌}
 use Rattle.std.specs.Str.{IsCharBoundary}
 use Rattle.json_text.specs.Nodes.{IsNode}
 use Rattle.json_text.specs.Grammar.{Json, array, Element, element, Elements, no_elements, more_elements, print, print_element, print_elements, IsElement, AreElements, AreBlanks}
@@ -26,6 +26,10 @@ elements_of _ = []
 pub record Cursor : Type 0 where
   pub text : List ℕ
   pub at : ℕ
+
+-- how many bytes a walk has still ahead
+abbrev pub bytes_left : Cursor → ℕ
+bytes_left cursor = length cursor.text - cursor.at
 
 -- nothing or the end of an array comes next
 pub data IsOver (bytes : List ℕ) : Type 0 where

@@ -1,9 +1,9 @@
 //! The elements of an array, one after the other.
-ghost use Rattle.std.specs.Prelude.{◌≡◌, ◌≤◌, ◌<◌, ◌+◌, [], List, ℕ, length, drop, take, MatchOption, slice_get, slice_range};
+ghost use Rattle.std.specs.Prelude.{◌≡◌, ◌≤◌, ◌<◌, ◌+◌, [], List, ℕ, length, drop, take, IfSome, MatchOption, slice_get, slice_range};
 ghost use Rattle.std.specs.Str.{IsCharBoundary};
 ghost use Rattle.json_text.specs.Skipped.{value_rest};
 ghost use Rattle.json_text.specs.Trimmed.{skip_blanks};
-ghost use Rattle.json_text.specs.Walks.{Placed, Cursor, Ahead, IsFirst, IsAt, Split, comma_place, elements_of, walk_start};
+ghost use Rattle.json_text.specs.Walks.{Placed, Cursor, Ahead, IsFirst, IsAt, Split, bytes_left, comma_place, elements_of, walk_start};
 ghost use Rattle.json_text.specs.Grammar.{Json};
 ghost use Rattle.json_text.specs.Nodes.{Spells};
 
@@ -40,10 +40,12 @@ pub(crate) struct Part {
 }
 
 impl<'r> Elements<'r> {
-    /// The next element, with the place of its first byte in the array's bytes.
+    /// The next element, with the place of its first byte in the array's bytes; nothing at the end, and
+    /// from then on. A walk over all elements takes time linear in the array's bytes.
     pub fn next(&mut self) -> Option<(u64, JsonNode<'r>)>
-        ensures { (items : List Placed) → Ahead self.old items → MatchOption result
+        ensures element { (items : List Placed) → Ahead self.old items → MatchOption result
             ((items ≡ []) × (self.new ≡ self.old)) (λ p. IsFirst items p.0 p.1 self.new) }
+        ensures shorter { IfSome result (λ p. bytes_left self.new < bytes_left self.old) }
     {
         match part_of(self.text.as_bytes(), self.at) {
             Some(part) => {
@@ -59,8 +61,9 @@ impl<'r> Elements<'r> {
 /// The element that comes next, or nothing at the end.
 pub(crate) fn part_of(bytes: &[u8], at: usize) -> Option<Part>
     requires { at ≤ length bytes.now }
-    ensures { (items : List Placed) → Ahead (record { text = bytes.now; at = at }) items
+    ensures split { (items : List Placed) → Ahead (record { text = bytes.now; at = at }) items
         → MatchOption result (items ≡ []) (λ p. Split bytes.now items p.start p.end p.next) }
+    ensures after { IfSome result (λ p. at < p.next) }
 {
     let start = blanks_end(bytes, at);
     if start >= bytes.len() {
@@ -77,7 +80,8 @@ pub(crate) fn part_of(bytes: &[u8], at: usize) -> Option<Part>
 /// The place behind a comma, or else the end.
 pub(crate) fn behind_comma(bytes: &[u8], at: usize) -> usize
     requires { at ≤ length bytes.now }
-    ensures { result ≡ comma_place bytes.now at }
+    ensures value { result ≡ comma_place bytes.now at }
+    ensures after { at ≤ result }
 {
     if at < bytes.len() && bytes[at] == b',' {
         at + 1

@@ -1,11 +1,12 @@
 //! The one pass over a JSON text.
-ghost use Rattle.std.specs.Prelude.{◌≡◌, ℕ, suc, List, [], ◌∷◌};
-ghost use Rattle.json_text.specs.Machine.{verdict, may_end_value, may_end_number};
-ghost use Rattle.json_text.specs.Judged.{after_taken, said};
+ghost use Rattle.std.specs.Prelude.{◌≡◌, ◌+◌, ◌<◌, ℕ, suc, List, [], ◌∷◌, length, drop};
+ghost use Rattle.json_text.specs.Machine.{verdict};
+ghost use Rattle.json_text.specs.Judged.{after_taken, said, mode_of, IsReached};
 ghost use Rattle.json_text.specs.declared.machine.Mode.TheVariants.{ValueDue};
 
-use crate::machine::{Digits, Mode, Move, step_of};
+use crate::machine::{Due, Move, step_of};
 use crate::nest::Nest;
+use crate::tokens::{Taken, finish};
 
 /// What the reader says of all bytes, with the place of the byte that it refuses.
 #[derive(Clone, Copy)]
@@ -15,89 +16,70 @@ pub(crate) enum Judged {
     TooDeep(usize),
 }
 
-/// What the reader does with one byte.
-#[derive(Clone, Copy)]
-pub(crate) enum Taken {
-    Next(Mode),
-    Refused,
-    PastLevels,
-}
-
 /// Reads the bytes to the end or to the first that doesn't fit.
 pub(crate) fn judge(bytes: &[u8]) -> Judged
     ensures { said result ≡ verdict bytes.now ValueDue [] 0 }
 {
-    let mut mode = Mode::ValueDue;
+    let mut due = Due::Value;
     let mut nest = Nest::new();
-    for (at, byte) in bytes.iter().enumerate() {
-        match take(mode, &mut nest, *byte) {
-            Taken::Next(next) => mode = next,
-            Taken::Refused => return Judged::Unfit(at),
-            Taken::PastLevels => return Judged::TooDeep(at),
+    let mut at = 0;
+    'each: while at < bytes.len() {
+        match take(bytes, at, due, &mut nest) {
+            Taken::Next(next, place) => {
+                due = next;
+                at = place;
+            }
+            Taken::Refused(place) => return Judged::Unfit(place),
+            Taken::PastLevels(place) => return Judged::TooDeep(place),
         }
     }
-    at_end(mode, &nest, bytes.len())
+    at_end(due, &nest, at)
 }
 
-/// Takes a byte.
+/// Takes a token.
 #[inline(always)]
-#[tactic(auto, unfolding(crate::specs::Machine::verdict))]
-fn take(mode: Mode, nest: &mut Nest, byte: u8) -> Taken
-    ensures { (rest : List ℕ) (at : ℕ) → verdict (byte ∷ rest) mode nest.old at
-        ≡ after_taken result nest.new rest at }
+fn take(bytes: &[u8], at: usize, due: Due, nest: &mut Nest) -> Taken
+    requires { at < length bytes.now }
+    ensures value { after_taken result bytes.now nest.new ≡ verdict (drop at bytes.now) (mode_of due) nest.old at }
+    ensures reached { IsReached (at + 1) (length bytes.now) result }
 {
-    match step_of(mode, nest.around(), byte) {
-        Move::To(next) => Taken::Next(next),
+    match step_of(due, nest, bytes[at]) {
+        Move::To(mode) => finish(bytes, at + 1, mode),
         Move::OpenArray => {
             if nest.open_array() {
-                Taken::Next(Mode::ElementDue)
+                Taken::Next(Due::FirstValue, at + 1)
             } else {
-                Taken::PastLevels
+                Taken::PastLevels(at)
             }
         }
         Move::OpenObject => {
             if nest.open_object() {
-                Taken::Next(Mode::FirstNameDue)
+                Taken::Next(Due::FirstName, at + 1)
             } else {
-                Taken::PastLevels
+                Taken::PastLevels(at)
             }
         }
         Move::Close => {
             nest.close();
-            Taken::Next(Mode::Ended)
+            Taken::Next(Due::Rest, at + 1)
         }
-        Move::Refuse => Taken::Refused,
+        Move::Refuse => Taken::Refused(at),
     }
 }
 
 /// What is said where the bytes end.
 #[tactic(auto, unfolding(crate::specs::Machine::verdict))]
-fn at_end(mode: Mode, nest: &Nest, len: usize) -> Judged
-    ensures { said result ≡ verdict [] mode nest.now len }
+fn at_end(due: Due, nest: &Nest, len: usize) -> Judged
+    ensures { said result ≡ verdict [] (mode_of due) nest.now len }
 {
-    if nest.is_empty() && may_end(mode) {
-        Judged::Accepted
-    } else {
-        Judged::Unfit(len)
-    }
-}
-
-/// Whether a value may have ended.
-fn may_end(mode: Mode) -> bool
-    ensures { result ≡ may_end_value mode }
-{
-    match mode {
-        Mode::Ended => true,
-        Mode::InNumber(digits) => may_end_number_at(digits),
-        _ => false,
-    }
-}
-
-fn may_end_number_at(digits: Digits) -> bool
-    ensures { result ≡ may_end_number digits }
-{
-    match digits {
-        Digits::AfterZero | Digits::InInt | Digits::InFrac | Digits::InExp => true,
-        _ => false,
+    match due {
+        Due::Rest => {
+            if nest.is_empty() {
+                Judged::Accepted
+            } else {
+                Judged::Unfit(len)
+            }
+        }
+        _ => Judged::Unfit(len),
     }
 }

@@ -3,17 +3,19 @@
 
 mod bytes;
 mod checking;
+mod compact;
 mod elements;
 mod judge;
 mod machine;
 mod members;
 mod nest;
 mod node;
+mod runs;
 mod skip;
-#[cfg(test)]
-mod tests;
+mod tokens;
 mod trim;
 
 pub use crate::checking::{JsonCode, JsonFault, check};
 pub use crate::elements::Elements;
+pub use crate::members::{JsonMember, Members};
 pub use crate::node::{JsonNode, Kind};

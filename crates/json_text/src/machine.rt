@@ -1,11 +1,13 @@
 //! What each byte of a JSON text does to a reader that remembers what is due and which brackets are open.
-ghost use Rattle.std.specs.Prelude.{◌≡◌};
-ghost use Rattle.json_text.specs.Machine.{after_move, value_move, first_element_move, name_move, first_name_move, colon_move, word_move, number_move, part_next, closes, step, comma_move, letter_move, text_move, in_name_move, escape_next, part_if};
+ghost use Rattle.std.specs.Prelude.{◌≡◌, if◌then◌else◌};
+ghost use Rattle.json_text.specs.Machine.{after_move, value_move, first_element_move, name_move, first_name_move, word_move, number_next, may_end_number, part_next, closes, step, around_of, comma_move, escape_next, part_if};
+ghost use Rattle.json_text.specs.Judged.{mode_of, spelling_move};
 
 use crate::bytes::{
     Class, class_of, is_below_8, is_escape_letter, is_hex, is_high_digit, is_low_digit,
     is_surrogate_digit,
 };
+use crate::nest::Nest;
 
 /// What is due.
 #[derive(Clone, Copy)]
@@ -84,6 +86,29 @@ pub(crate) enum Part {
     LowDigit,
 }
 
+/// How a word goes on.
+#[derive(Clone, Copy)]
+pub(crate) enum Spelling {
+    More(Letters),
+    Whole,
+    Wrong,
+}
+
+/// What is due between two tokens.
+#[derive(Clone, Copy)]
+pub(crate) enum Due {
+    /// A value.
+    Value,
+    /// A value or the end of an array.
+    FirstValue,
+    /// A member's name.
+    Name,
+    /// A member's name or the end of an object.
+    FirstName,
+    /// What may stand behind a value.
+    Rest,
+}
+
 /// The innermost open bracket.
 #[derive(Clone, Copy)]
 pub(crate) enum Around {
@@ -102,23 +127,18 @@ pub(crate) enum Move {
     Refuse,
 }
 
-/// What a byte does to the reader.
+/// What a byte does where no token is open.
 #[inline(always)]
 #[tactic(auto, unfolding(crate::specs::Machine::step))]
-pub(crate) fn step_of(mode: Mode, around: Around, byte: u8) -> Move
-    ensures { result ≡ step mode around byte }
+pub(crate) fn step_of(due: Due, nest: &Nest, byte: u8) -> Move
+    ensures { result ≡ step (mode_of due) (around_of nest.now) byte }
 {
-    match mode {
-        Mode::ValueDue => value(class_of(byte)),
-        Mode::ElementDue => first_element(class_of(byte)),
-        Mode::NameDue => name(class_of(byte)),
-        Mode::FirstNameDue => first_name(class_of(byte)),
-        Mode::ColonDue => colon(class_of(byte)),
-        Mode::Ended => after(around, class_of(byte)),
-        Mode::InWord(letters) => word(letters, byte),
-        Mode::InNumber(digits) => number(digits, around, class_of(byte)),
-        Mode::InText(part) => in_text(part, byte),
-        Mode::InName(part) => in_name(part, byte),
+    match due {
+        Due::Value => value(class_of(byte)),
+        Due::FirstValue => first_element(class_of(byte)),
+        Due::Name => name(class_of(byte)),
+        Due::FirstName => first_name(class_of(byte)),
+        Due::Rest => after(nest.around(), class_of(byte)),
     }
 }
 
@@ -175,17 +195,6 @@ fn first_name(class: Class) -> Move
 }
 
 #[inline(always)]
-fn colon(class: Class) -> Move
-    ensures { result ≡ colon_move class }
-{
-    match class {
-        Class::Blank => Move::To(Mode::ColonDue),
-        Class::Colon => Move::To(Mode::ValueDue),
-        _ => Move::Refuse,
-    }
-}
-
-#[inline(always)]
 fn after(around: Around, class: Class) -> Move
     ensures { result ≡ after_move around class }
 {
@@ -215,105 +224,92 @@ fn behind_comma(around: Around) -> Move
     }
 }
 
+/// How far a number is read with one byte more; nothing where the byte isn't the number's.
 #[inline(always)]
-fn number(digits: Digits, around: Around, class: Class) -> Move
-    ensures { result ≡ number_move digits around class }
+pub(crate) fn next_digits(digits: Digits, class: Class) -> Option<Digits>
+    ensures { result ≡ number_next digits class }
 {
     match digits {
         Digits::AfterMinus => match class {
-            Class::Zero => Move::To(Mode::InNumber(Digits::AfterZero)),
-            Class::Nonzero => Move::To(Mode::InNumber(Digits::InInt)),
-            _ => Move::Refuse,
+            Class::Zero => Some(Digits::AfterZero),
+            Class::Nonzero => Some(Digits::InInt),
+            _ => None,
         },
         Digits::AfterZero => match class {
-            Class::Point => Move::To(Mode::InNumber(Digits::AfterPoint)),
-            Class::LetterE => Move::To(Mode::InNumber(Digits::AfterE)),
-            _ => after(around, class),
+            Class::Point => Some(Digits::AfterPoint),
+            Class::LetterE => Some(Digits::AfterE),
+            _ => None,
         },
         Digits::InInt => match class {
-            Class::Zero | Class::Nonzero => Move::To(Mode::InNumber(Digits::InInt)),
-            Class::Point => Move::To(Mode::InNumber(Digits::AfterPoint)),
-            Class::LetterE => Move::To(Mode::InNumber(Digits::AfterE)),
-            _ => after(around, class),
+            Class::Zero | Class::Nonzero => Some(Digits::InInt),
+            Class::Point => Some(Digits::AfterPoint),
+            Class::LetterE => Some(Digits::AfterE),
+            _ => None,
         },
         Digits::AfterPoint => match class {
-            Class::Zero | Class::Nonzero => Move::To(Mode::InNumber(Digits::InFrac)),
-            _ => Move::Refuse,
+            Class::Zero | Class::Nonzero => Some(Digits::InFrac),
+            _ => None,
         },
         Digits::InFrac => match class {
-            Class::Zero | Class::Nonzero => Move::To(Mode::InNumber(Digits::InFrac)),
-            Class::LetterE => Move::To(Mode::InNumber(Digits::AfterE)),
-            _ => after(around, class),
+            Class::Zero | Class::Nonzero => Some(Digits::InFrac),
+            Class::LetterE => Some(Digits::AfterE),
+            _ => None,
         },
         Digits::AfterE => match class {
-            Class::Zero | Class::Nonzero => Move::To(Mode::InNumber(Digits::InExp)),
-            Class::Minus | Class::Plus => Move::To(Mode::InNumber(Digits::AfterSign)),
-            _ => Move::Refuse,
+            Class::Zero | Class::Nonzero => Some(Digits::InExp),
+            Class::Minus | Class::Plus => Some(Digits::AfterSign),
+            _ => None,
         },
         Digits::AfterSign => match class {
-            Class::Zero | Class::Nonzero => Move::To(Mode::InNumber(Digits::InExp)),
-            _ => Move::Refuse,
+            Class::Zero | Class::Nonzero => Some(Digits::InExp),
+            _ => None,
         },
         Digits::InExp => match class {
-            Class::Zero | Class::Nonzero => Move::To(Mode::InNumber(Digits::InExp)),
-            _ => after(around, class),
+            Class::Zero | Class::Nonzero => Some(Digits::InExp),
+            _ => None,
         },
     }
 }
 
+/// Whether a number may end there.
 #[inline(always)]
-fn word(letters: Letters, byte: u8) -> Move
-    ensures { result ≡ word_move letters byte }
+pub(crate) fn may_end_number(digits: Digits) -> bool
+    ensures { result ≡ may_end_number digits }
+{
+    match digits {
+        Digits::AfterZero | Digits::InInt | Digits::InFrac | Digits::InExp => true,
+        _ => false,
+    }
+}
+
+/// How far a word is read with one byte more.
+#[inline(always)]
+pub(crate) fn next_letters(letters: Letters, byte: u8) -> Spelling
+    ensures { spelling_move result ≡ word_move letters byte }
 {
     match letters {
-        Letters::Ull => letter(byte == b'u', Mode::InWord(Letters::Ll)),
-        Letters::Ll => letter(byte == b'l', Mode::InWord(Letters::L)),
-        Letters::L => letter(byte == b'l', Mode::Ended),
-        Letters::Rue => letter(byte == b'r', Mode::InWord(Letters::Ue)),
-        Letters::Ue => letter(byte == b'u', Mode::InWord(Letters::E)),
-        Letters::E => letter(byte == b'e', Mode::Ended),
-        Letters::Alse => letter(byte == b'a', Mode::InWord(Letters::Lse)),
-        Letters::Lse => letter(byte == b'l', Mode::InWord(Letters::Se)),
-        Letters::Se => letter(byte == b's', Mode::InWord(Letters::E)),
+        Letters::Ull => letter(byte == b'u', Spelling::More(Letters::Ll)),
+        Letters::Ll => letter(byte == b'l', Spelling::More(Letters::L)),
+        Letters::L => letter(byte == b'l', Spelling::Whole),
+        Letters::Rue => letter(byte == b'r', Spelling::More(Letters::Ue)),
+        Letters::Ue => letter(byte == b'u', Spelling::More(Letters::E)),
+        Letters::E => letter(byte == b'e', Spelling::Whole),
+        Letters::Alse => letter(byte == b'a', Spelling::More(Letters::Lse)),
+        Letters::Lse => letter(byte == b'l', Spelling::More(Letters::Se)),
+        Letters::Se => letter(byte == b's', Spelling::More(Letters::E)),
     }
 }
 
 #[inline(always)]
-fn letter(is: bool, next: Mode) -> Move
-    ensures { result ≡ letter_move is next }
+fn letter(is: bool, next: Spelling) -> Spelling
+    ensures { result ≡ (if is then next else Spelling.Wrong) }
 {
-    if is { Move::To(next) } else { Move::Refuse }
-}
-
-#[inline(always)]
-fn in_text(part: Part, byte: u8) -> Move
-    ensures { result ≡ text_move part byte }
-{
-    if closed_by(part, byte) {
-        return Move::To(Mode::Ended);
-    }
-    match next_part(part, byte) {
-        Some(next) => Move::To(Mode::InText(next)),
-        None => Move::Refuse,
-    }
-}
-
-#[inline(always)]
-fn in_name(part: Part, byte: u8) -> Move
-    ensures { result ≡ in_name_move part byte }
-{
-    if closed_by(part, byte) {
-        return Move::To(Mode::ColonDue);
-    }
-    match next_part(part, byte) {
-        Some(next) => Move::To(Mode::InName(next)),
-        None => Move::Refuse,
-    }
+    if is { next } else { Spelling::Wrong }
 }
 
 /// Whether the byte ends the string.
 #[inline(always)]
-fn closed_by(part: Part, byte: u8) -> bool
+pub(crate) fn closed_by(part: Part, byte: u8) -> bool
     ensures { result ≡ closes part byte }
 {
     match part {

@@ -1,9 +1,9 @@
 //! The members of an object, one after the other.
-ghost use Rattle.std.specs.Prelude.{◌≡◌, ◌≤◌, ◌<◌, ◌+◌, [], List, ℕ, length, drop, MatchOption, slice_range, slice_get};
+ghost use Rattle.std.specs.Prelude.{◌≡◌, ◌≤◌, ◌<◌, ◌+◌, [], List, ℕ, length, drop, IfSome, MatchOption, slice_range, slice_get};
 ghost use Rattle.std.specs.Str.{IsCharBoundary, IsUtf8, chars};
 ghost use Rattle.text_view.specs.JsonString.{unescaped_text};
-ghost use Rattle.json_text.specs.Walks.{Cursor};
-ghost use Rattle.json_text.specs.Naming.{Named, Coming, IsFirstMember, SplitMember, members_of, object_start, IsMemberAt};
+ghost use Rattle.json_text.specs.Walks.{Cursor, bytes_left};
+ghost use Rattle.json_text.specs.Naming.{Named, Coming, IsFirstMember, IsNextMember, SplitMember, members_of, object_start, IsMemberAt, same_name, member_named, IsValueOf, IsPlacedValueOf};
 ghost use Rattle.json_text.specs.Grammar.{Json};
 ghost use Rattle.json_text.specs.Nodes.{Spells};
 
@@ -16,7 +16,7 @@ use text_view::Text;
 
 /// A walk over the members of an object. A contract sees a place in the object's bytes.
 #[derive(Drop)]
-pub(crate) struct Members<'r> {
+pub struct Members<'r> {
     text: &'r str,
     at: usize,
 }
@@ -34,7 +34,15 @@ impl<'r> Model for Members<'r> {
         × ∥ IsMemberWalk (record { text = e.text.now; at = e.at }) ∥₁ };
 }
 
-/// A member: the bytes between its name's quotation marks, its value and the value's place.
+/// A member of an object: its name, its value, and the place of the value's first byte in the object's bytes.
+#[derive(Drop)]
+pub struct JsonMember<'r> {
+    pub name: Text<'r>,
+    pub place: u64,
+    pub value: JsonNode<'r>,
+}
+
+/// A member with its name as it is spelled, between the quotation marks.
 #[derive(Drop)]
 pub(crate) struct MemberPart<'r> {
     pub(crate) name: &'r str,
@@ -53,11 +61,30 @@ pub(crate) struct MemberPlaces {
 }
 
 impl<'r> Members<'r> {
-    /// The next member.
+    /// The next member; nothing at the end, and from then on. A walk over all members takes time linear in the object's bytes.
+    pub fn next(&mut self) -> Option<JsonMember<'r>>
+        ensures member { (items : List Named) → Coming self.old items → MatchOption result
+            ((items ≡ []) × (self.new ≡ self.old))
+            (λ m. IsNextMember items m.name m.place m.value self.new) }
+        ensures shorter { IfSome result (λ m. bytes_left self.new < bytes_left self.old) }
+    {
+        match self.step() {
+            Some(part) => Some(JsonMember {
+                name: Text::json(part.name),
+                place: part.place,
+                value: part.node,
+            }),
+            None => None,
+        }
+    }
+
+    /// The next member, its name not unescaped.
+    #[inline]
     pub(crate) fn step(&mut self) -> Option<MemberPart<'r>>
-        ensures { (items : List Named) → Coming self.old items → MatchOption result
+        ensures member { (items : List Named) → Coming self.old items → MatchOption result
             ((items ≡ []) × (self.new ≡ self.old))
             (λ p. IsFirstMember items p.name.now p.place p.node self.new) }
+        ensures shorter { IfSome result (λ p. bytes_left self.new < bytes_left self.old) }
     {
         match places_of(self.text, self.at) {
             Some(part) => {
@@ -78,9 +105,10 @@ impl<'r> Members<'r> {
 /// The member that comes next, or nothing at the end.
 fn places_of(text: &str, at: usize) -> Option<MemberPlaces>
     requires { at ≤ length text.now }
-    ensures { (items : List Named) → Coming (record { text = text.now; at = at }) items
+    ensures split { (items : List Named) → Coming (record { text = text.now; at = at }) items
         → MatchOption result (items ≡ [])
         (λ p. SplitMember text.now items p.name_start p.name_end p.start p.end p.next) }
+    ensures after { IfSome result (λ p. at < p.next) }
 {
     let bytes = text.as_bytes();
     let quote = blanks_end(bytes, at);
@@ -107,9 +135,51 @@ fn places_of(text: &str, at: usize) -> Option<MemberPlaces>
     })
 }
 
+/// Whether the spelled name `raw` is `name`, exactly or but for the case of ASCII letters. A name
+/// without an escape is compared as it is spelled.
+#[inline]
+fn is_named(raw: &str, name: &str, exact: bool) -> bool
+    ensures { result ≡ same_name exact (chars name.now) (unescaped_text (chars raw.now)) }
+{
+    let text = Text::json(raw);
+    if exact {
+        text.equals(name)
+    } else {
+        text.eq_ignore_ascii_case(name)
+    }
+}
+
 impl<'r> JsonNode<'r> {
+    /// The value of the first member named `name`, exactly or but for the case of ASCII letters; a value
+    /// that is no object has none.
+    pub fn member(&self, name: &str, exact: bool) -> Option<JsonNode<'r>>
+        ensures { (tree : Json) → Spells self.now tree → MatchOption result
+            (member_named exact (chars name.now) tree ≡ None)
+            (λ node. IsValueOf (member_named exact (chars name.now) tree) node) }
+    {
+        match self.member_place(name, exact) {
+            Some((_, node)) => Some(node),
+            None => None,
+        }
+    }
+
+    /// The same, with the place of the value's first byte in the object's bytes.
+    pub fn member_place(&self, name: &str, exact: bool) -> Option<(u64, JsonNode<'r>)>
+        ensures { (tree : Json) → Spells self.now tree → MatchOption result
+            (member_named exact (chars name.now) tree ≡ None)
+            (λ p. IsPlacedValueOf (member_named exact (chars name.now) tree) p.0 p.1) }
+    {
+        let mut walk = self.members();
+        'each: while let Some(part) = walk.step() {
+            if is_named(part.name, name, exact) {
+                return Some((part.place, part.node));
+            }
+        }
+        None
+    }
+
     /// A walk over the members of an object; another value has none.
-    pub(crate) fn members(&self) -> Members<'r>
+    pub fn members(&self) -> Members<'r>
         ensures { (tree : Json) → Spells self.now tree → Coming result (members_of tree) }
     {
         let text = self.token();

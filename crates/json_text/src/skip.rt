@@ -1,6 +1,8 @@
 //! Passes over a value that is known to be valid.
-ghost use Rattle.std.specs.Prelude.{◌≡◌, ◌≤◌, ◌<◌, ◌+◌, length, drop, false, true};
+ghost use Rattle.std.specs.Prelude.{◌≡◌, ◌≢◌, ◌≤◌, ◌<◌, ◌+◌, length, drop, slice_index, false, true};
 ghost use Rattle.json_text.specs.Skipped.{string_rest, skip, outside, inside, is_stop, is_open, is_close, token_rest, value_rest};
+
+use crate::runs::plain_end;
 
 /// The place behind the value that stands at `at`.
 #[tactic(auto, unfolding(crate::specs::Skipped::value_rest))]
@@ -51,20 +53,41 @@ pub(crate) fn string_end(bytes: &[u8], from: usize) -> usize
     ensures after { from ≤ result }
     ensures within { result ≤ length bytes.now }
 {
-    let mut at = from;
-    let mut escaped = false;
+    let mut at = plain_end(bytes, from);
     'each: while at < bytes.len() {
-        let byte = bytes[at];
-        at += 1;
-        if escaped {
-            escaped = false;
-        } else if byte == b'"' {
-            return at;
-        } else {
-            escaped = byte == b'\\';
+        if bytes[at] == b'"' {
+            return at + 1;
         }
+        at = plain_end(bytes, past_mark(bytes, at));
     }
     at
+}
+
+/// The place behind a byte in a string that isn't plain, and behind the byte that it escapes.
+#[inline]
+fn past_mark(bytes: &[u8], at: usize) -> usize
+    requires inside { at < length bytes.now }
+    requires open { slice_index bytes.now at ≢ 34 }
+    ensures value { string_rest false (drop result bytes.now) ≡ string_rest false (drop at bytes.now) }
+    ensures after { at < result }
+    ensures within { result ≤ length bytes.now }
+{
+    if bytes[at] == b'\\' {
+        behind_escaped(bytes, at + 1)
+    } else {
+        at + 1
+    }
+}
+
+/// The place behind the byte behind a reverse solidus.
+#[inline]
+fn behind_escaped(bytes: &[u8], at: usize) -> usize
+    requires { at ≤ length bytes.now }
+    ensures value { string_rest false (drop result bytes.now) ≡ string_rest true (drop at bytes.now) }
+    ensures after { at ≤ result }
+    ensures within { result ≤ length bytes.now }
+{
+    if at < bytes.len() { at + 1 } else { at }
 }
 
 /// The place behind the bracket that closes.

@@ -45,6 +45,7 @@ pub(crate) fn blanks_in_front(bytes: &[u8]) -> usize
 pub(crate) fn blanks_end(bytes: &[u8], at: usize) -> usize
     requires { at ≤ length bytes.now }
     ensures value { drop result bytes.now ≡ skip_blanks (drop at bytes.now) }
+    ensures count { result ≡ at + prefix_len is_blank (drop at bytes.now) }
     ensures after { at ≤ result }
     ensures within { result ≤ length bytes.now }
 {

@@ -1,16 +1,16 @@
-//! What no clause says of the libraries for texts, numbers and grammars: each public call on its happy path, with values that were
-//! made elsewhere.
+//! Tests of what no clause says of the libraries that aren't rows of a table yet: each public call on its happy path, with values
+//! that were made elsewhere.
 #![tactic(auto)]
 
 #[cfg(test)]
-mod decimals;
+mod csv;
 #[cfg(test)]
-mod grammars;
+mod json;
 #[cfg(test)]
-mod masks;
+mod printed_queries;
 #[cfg(test)]
-mod texts;
+mod timestamps;
 #[cfg(test)]
-mod thrift;
+mod value_texts;
 #[cfg(test)]
-mod tokens;
+mod values;

@@ -1,7 +1,5 @@
-pub mod AnswerLaws
-pub mod BoundLaws
-pub mod Contents
-pub mod Cutting
-pub mod Framing
-pub mod StreamLaws
-pub mod WindowSteps
+mod BoundLaws
+mod Contents
+mod Framing
+mod StreamLaws
+mod WindowSteps

@@ -1,10 +1,7 @@
-pub mod Answer
-pub mod Begun
-pub mod Codes
 pub mod Events
 pub mod Jobs
-pub mod LineAnswers
-pub mod Pieces
+pub mod LineTurns
 pub mod Prepared
+pub mod RecordYields
 pub mod Records
 pub mod Streaming

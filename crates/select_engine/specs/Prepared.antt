@@ -16,8 +16,8 @@ use Rattle.select_request.specs.declared.fault.RequestFaultCode.TheVariants as r
 use Rattle.select_request.specs.declared.fault.ReadError.TheVariants.{Refused}
 use Rattle.select_engine.specs.declared.asked.Asked.{Asked}
 use Rattle.select_engine.specs.declared.asked.Asked.TheVariants as asked
-use Rattle.select_engine.specs.declared.code.Code.{Code}
-use Rattle.select_engine.specs.declared.code.Code.TheVariants.{MalformedXML, MissingRequiredParameter, InvalidExpressionType, InvalidRequestParameter, InvalidCompressionFormat, InvalidScanRange, UnsupportedScanRangeInput, NotBuilt}
+use Rattle.select_reply.specs.declared.code.Code.{Code}
+use Rattle.select_reply.specs.declared.code.Code.TheVariants.{MalformedXML, MissingRequiredParameter, InvalidExpressionType, InvalidRequestParameter, InvalidCompressionFormat, InvalidScanRange, UnsupportedScanRangeInput, NotBuilt}
 
 -- a line feed
 abbrev pub is_line_feed : Delimiter → Bool

@@ -3,8 +3,8 @@ use Rattle.std.specs.Prelude.{ℕ, ◌||◌, ◌==◌, Bool, true, not, nat_lt, 
 use Rattle.std.specs.List.{list_any, slice_split}
 use Rattle.std.specs.Str.{is_utf8}
 use Rattle.line_window.specs.Cuts.{Cut, content, cuts}
-use Rattle.select_engine.specs.declared.code.Code.{Code}
-use Rattle.select_engine.specs.declared.code.Code.TheVariants.{NotBuilt, OverMaxRecordSize, InvalidTextEncoding, TooManyFields}
+use Rattle.select_reply.specs.declared.code.Code.{Code}
+use Rattle.select_reply.specs.declared.code.Code.TheVariants.{NotBuilt, OverMaxRecordSize, InvalidTextEncoding, TooManyFields}
 
 -- the delimiter of records: LF
 abbrev pub delimiter : List ℕ

@@ -2,7 +2,7 @@
 ghost use Rattle.std.specs.Prelude.{◌≡◌, IfOk};
 ghost use Rattle.select_engine.specs.Prepared.{Prepares, IsAskedOf, is_line_feed, is_without, is_plain_input, is_plain_output, is_built, code_of};
 
-use crate::code::Code;
+use select_reply::Code;
 use select_request::{
     Delimiter, Header, Input, Output, ReadError, RequestFaultCode, SelectRequest,
 };

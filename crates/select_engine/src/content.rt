@@ -4,8 +4,8 @@ ghost use Rattle.std.specs.List.{list_any, slice_split};
 ghost use Rattle.std.specs.Str.{is_utf8};
 ghost use Rattle.select_engine.specs.Records.{is_passed_over, content_fault, is_comma, is_quote};
 
-use crate::code::Code;
 use memchr::{memchr, memchr_iter};
+use select_reply::Code;
 
 /// The most fields of a record.
 const MOST_FIELDS: usize = 65_536;

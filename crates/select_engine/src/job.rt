@@ -1,17 +1,19 @@
 //! Running a query over the store's open object: each record is lent from a window and answered before the next is read.
-ghost use Rattle.std.specs.Prelude.{◌≡◌, ℕ, ◌+◌, ◌-◌, ◌^◌, ◌<◌, ◌≤◌, [], ◌∷◌, false, List, Err, IfErr};
+ghost use Rattle.std.specs.Prelude.{◌≡◌, ℕ, ◌+◌, ◌-◌, ◌^◌, ◌<◌, ◌≤◌, [], ◌∷◌, false, None, List, Err, IfErr};
 ghost use Rattle.select_ports.specs.Stored.{IsOpen};
 ghost use Rattle.line_window.specs.Sliding.{Tells, Holds, IsSound, left};
-ghost use Rattle.select_engine.specs.Records.{records, records_of, delimiter};
-ghost use Rattle.select_engine.specs.Answer.{processed};
-ghost use Rattle.select_engine.specs.Events.{error_event};
+ghost use Rattle.select_engine.specs.Records.{delimiter};
+ghost use Rattle.select_engine.specs.RecordYields.{yields, yields_of};
+ghost use Rattle.select_reply.specs.Answers.{processed};
+ghost use Rattle.select_reply.specs.Begun.{unbegun};
+ghost use Rattle.select_reply.specs.Events.{error_event};
 ghost use Rattle.select_engine.specs.Jobs.{Answers, WritesReply, WroteEarly, HasEngineCause};
 
-use crate::code::Code;
-use crate::outcome::{EngineError, Outcome};
-use crate::reply::ReplyWriter;
-use line_window::{Line, Window};
+use crate::line::answer;
+use crate::outcome::EngineError;
+use line_window::Window;
 use select_ports::{Failed, FrameSink, Limits, Range, Store};
+use select_reply::{Code, Outcome, ReplyWriter, replies_grow_by_records};
 use std::alloc::Global;
 
 /// Answers the query over the store's open object, whose size in bytes is given. All memory is taken before the first frame.
@@ -25,10 +27,10 @@ pub fn run_job<S: Store, K: FrameSink>(
     requires object { IsOpen (S.current store.old) size }
     requires limit { limits.longest ≤ 16777216 }
     ensures reply { (object : List ℕ) → Tells (S.current store.old) object
-        → Answers K.wrap (processed (records limits.longest object)) (K.written out.old) (K.written out.new) result }
+        → Answers K.wrap (processed None (yields limits.longest object)) (K.written out.old) (K.written out.new) result }
     ensures early { (object : List ℕ) → Tells (S.current store.old) object → result ≡ Err EngineError.StoreFault
         → WroteEarly K.wrap limits.longest (S.taken store.new - S.taken store.old)
-        (processed (records limits.longest object)) (K.written out.old) (K.written out.new) }
+        (processed None (yields limits.longest object)) (K.written out.old) (K.written out.new) }
     ensures cause { IfErr result (HasEngineCause (S.faults store.old) (S.faults store.new)
         (K.faults out.old) (K.faults out.new) (K.written out.old) (K.written out.new)) }
     ensures taken { S.taken store.new ≤ S.taken store.old + size }
@@ -42,7 +44,7 @@ pub fn run_job<S: Store, K: FrameSink>(
     let Ok(mut window) = Window::open(alloc, limits, b"\n") else {
         return Err(EngineError::OutOfMemory);
     };
-    let Ok(mut reply) = ReplyWriter::make(alloc) else {
+    let Ok(mut reply) = ReplyWriter::make(alloc, false, None) else {
         return Err(EngineError::OutOfMemory);
     };
     if size == 0 {
@@ -71,14 +73,14 @@ fn answer_lines<S: Store, K: FrameSink>(
     requires small { window.old.size < 2 ^ 64 }
     requires within { window.old.stop ≤ window.old.size }
     requires delimiter { window.old.delimiter ≡ delimiter }
-    requires fresh { reply.old ≡ record { pending = []; scanned = 0; returned = 0 } }
+    requires fresh { reply.old ≡ unbegun false None }
     ensures reply { (object : List ℕ) → Tells (S.current store.old) object → Holds object window.old
-        → Answers K.wrap (processed (records_of window.old.longest (left object window.old)))
+        → Answers K.wrap (processed None (yields_of window.old.longest (left object window.old)))
         (K.written out.old) (K.written out.new) result }
     ensures early { (object : List ℕ) → Tells (S.current store.old) object → Holds object window.old
         → window.old.upto ≡ 0 → result ≡ Err EngineError.StoreFault
         → WroteEarly K.wrap window.old.longest (S.taken store.new - S.taken store.old)
-        (processed (records_of window.old.longest (left object window.old)))
+        (processed None (yields_of window.old.longest (left object window.old)))
         (K.written out.old) (K.written out.new) }
     ensures cause { IfErr result (HasEngineCause (S.faults store.old) (S.faults store.new)
         (K.faults out.old) (K.faults out.new) (K.written out.old) (K.written out.new)) }
@@ -90,12 +92,13 @@ fn answer_lines<S: Store, K: FrameSink>(
     ensures out_faults { K.faults out.old ≤ K.faults out.new }
     ensures rest { K.rest out.new ≡ K.rest out.old }
 {
+    replies_grow_by_records();
     'lines: loop {
         let line = match window.next(store) {
             Ok(line) => line,
             Err(Failed) => return Err(EngineError::StoreFault),
         };
-        match reply.answer(out, line) {
+        match answer(reply, out, line) {
             Ok(None) => {}
             Ok(Some(outcome)) => return Ok(outcome),
             Err(Failed) => return Err(EngineError::WriteFault),
@@ -105,7 +108,7 @@ fn answer_lines<S: Store, K: FrameSink>(
 
 // Answers an object that has no byte.
 fn answer_none<K: FrameSink>(reply: &mut ReplyWriter, out: &mut K) -> Result<Outcome, EngineError>
-    requires fresh { reply.old ≡ record { pending = []; scanned = 0; returned = 0 } }
+    requires fresh { reply.old ≡ unbegun false None }
     ensures reply { Answers K.wrap [] (K.written out.old) (K.written out.new) result }
     ensures cause { IfErr result (HasEngineCause 0 0
         (K.faults out.old) (K.faults out.new) (K.written out.old) (K.written out.new)) }
@@ -113,7 +116,8 @@ fn answer_none<K: FrameSink>(reply: &mut ReplyWriter, out: &mut K) -> Result<Out
     ensures out_faults { K.faults out.old ≤ K.faults out.new }
     ensures rest { K.rest out.new ≡ K.rest out.old }
 {
-    match reply.answer(out, Line::End) {
+    replies_grow_by_records();
+    match reply.finish(out) {
         Ok(Some(outcome)) => Ok(outcome),
         Ok(None) => unreachable!(),
         Err(Failed) => Err(EngineError::WriteFault),
@@ -135,10 +139,10 @@ pub fn refuse<K: FrameSink>(
     ensures out_faults { K.faults out.old ≤ K.faults out.new }
     ensures rest { K.rest out.new ≡ K.rest out.old }
 {
-    let Ok(mut reply) = ReplyWriter::make(alloc) else {
+    let Ok(mut reply) = ReplyWriter::make(alloc, false, None) else {
         return Err(EngineError::OutOfMemory);
     };
-    match reply.fault(out, code, at) {
+    match reply.refuse(out, code, at) {
         Ok(_) => Ok(Outcome::Faulted { code, at }),
         Err(Failed) => Err(EngineError::WriteFault),
     }

@@ -3,13 +3,12 @@
 #![tactic(auto)]
 
 mod asked;
-mod code;
 mod content;
 mod job;
+mod line;
 mod outcome;
-mod reply;
 
 pub use asked::{Asked, prepare};
-pub use code::Code;
 pub use job::{refuse, run_job};
-pub use outcome::{EngineError, Outcome};
+pub use outcome::EngineError;
+pub use select_reply::{Code, Outcome};

@@ -7,16 +7,18 @@ use Rattle.select_ports.specs.Streams.{AppendsFront}
 use Rattle.select_ports.specs.Stored.{Objects, Opened, LacksName}
 use Rattle.select_engine.specs.declared.asked.Asked.{Asked}
 use Rattle.select_engine.specs.declared.asked.Asked.TheVariants.{Refused, Asks}
-use Rattle.select_engine.specs.declared.outcome.Outcome.{Outcome}
-use Rattle.select_engine.specs.declared.outcome.Outcome.TheVariants.{Done, Faulted}
+use Rattle.select_reply.specs.declared.outcome.Outcome.{Outcome}
+use Rattle.select_reply.specs.declared.outcome.Outcome.TheVariants.{Done, Faulted}
 use Rattle.select_tool.specs.declared.trouble.Trouble.{Trouble}
 use Rattle.select_tool.specs.declared.trouble.Trouble.TheVariants.{BadWords, NoSuchKey, InputFault, OutputFault, StoreFault, OutOfMemory, BadReply}
 use Rattle.select_tool.specs.Words.{Order, selects, lists, selected}
 use Rattle.select_engine.specs.Prepared.{Prepares}
-use Rattle.select_engine.specs.Records.{records}
-use Rattle.select_engine.specs.Answer.{processed}
-use Rattle.select_engine.specs.Events.{events, wrapped_frames}
-use Rattle.select_engine.specs.Jobs.{outcome_of, WroteEarly}
+use Rattle.select_engine.specs.RecordYields.{yields}
+use Rattle.select_reply.specs.Answers.{processed}
+use Rattle.select_reply.specs.Events.{wrapped_frames}
+use Rattle.select_reply.specs.Replies.{outcome_of}
+use Rattle.select_engine.specs.Events.{events}
+use Rattle.select_engine.specs.Jobs.{WroteEarly}
 use Rattle.select_tool.specs.Statuses.{line_of}
 
 -- the record limit of the program, in bytes
@@ -30,7 +32,7 @@ reply_frames wrap object asked = wrapped_frames wrap (events longest_record obje
 -- how the reply ends: a refused body with its Error event, and a query as it is answered
 abbrev pub reply_outcome : List ℕ → Asked → Outcome
 reply_outcome object (Refused code at) = Faulted code at
-reply_outcome object (Asks request) = outcome_of (processed (records longest_record object))
+reply_outcome object (Asks request) = outcome_of (processed None (yields longest_record object))
 
 -- the reply to a body about an object, whole: the frames of its events, and how it ends
 pub record Replied (object body : List ℕ) (outcome : Outcome) (before now : Option (List ℕ)) : Type 0 where
@@ -48,7 +50,7 @@ pub record RepliedInPart (object body : List ℕ) (before now : Option (List ℕ
 -- output isn't held back: where so many bytes of the object were read, the whole pieces that the early records' output reaches have
 -- been written
 abbrev pub IsNotHeldBack : (List ℕ → List ℕ) → List ℕ → ℕ → Option (List ℕ) → Option (List ℕ) → Type 0
-IsNotHeldBack wrap object taken before now = WroteEarly wrap longest_record taken (processed (records longest_record object)) before now
+IsNotHeldBack wrap object taken before now = WroteEarly wrap longest_record taken (processed None (yields longest_record object)) before now
 
 -- nothing was written, or a front of the reply
 abbrev pub IsCutShort : List ℕ → List ℕ → Option (List ℕ) → Option (List ℕ) → Type 0

@@ -122,8 +122,8 @@ impl Buf {
         self.bytes.clear();
     }
 
-    /// Keeps the first `len` bytes.
-    pub(crate) fn truncate(&mut self, len: usize)
+    /// Keeps the first `len` bytes; the room stays.
+    pub fn truncate(&mut self, len: usize)
         ensures { self.new ≡ record self.old { bytes = take len self.old.bytes } }
     {
         self.bytes.truncate(len);

@@ -4,7 +4,7 @@ use Rattle.json_text.proofs.skip.string_end.Given as goal
 
 abbrev pub invariant-each : goal.invariant-each
 invariant-each l = record {
-  same : string_rest l.escaped (drop l.at l.bytes) ≡ string_rest false (drop l.from l.bytes);
+  same : string_rest false (drop l.at l.bytes) ≡ string_rest false (drop l.from l.bytes);
   after : l.from ≤ l.at;
   within : l.at ≤ length l.bytes;
 }

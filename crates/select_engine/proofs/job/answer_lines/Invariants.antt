@@ -1,4 +1,4 @@
-use Rattle.std.proofs.Common.{◌≡◌, ℕ, ◌-◌, ◌≤◌, List, false}
+use Rattle.std.proofs.Common.{◌≡◌, ℕ, ◌-◌, ◌≤◌, List, false, None}
 use Rattle.select_ports.specs.Stored.{IsOpen}
 use Rattle.line_window.specs.Sliding.{Tells, Holds, IsSound, SameRules, Took, left}
 use Rattle.select_engine.specs.Streaming.{Streamed}
@@ -9,6 +9,7 @@ invariant-lines g l = record {
   open_ : IsOpen (g.S.Store.current l.store) l.window.size;
   sound : IsSound l.window;
   works : l.window.failed ≡ false;
+  free : l.reply.left ≡ None;
   rules : SameRules l.initial.window l.window;
   forward : l.initial.window.upto ≤ l.window.upto;
   taken : Took (l.window.upto - l.initial.window.upto) (g.S.Store.taken l.initial.store) (g.S.Store.taken l.store);

@@ -1,0 +1,11 @@
+pub mod Characters
+pub mod Lines
+pub mod Places
+pub mod Spelling
+pub mod Cuts
+pub mod Stopping
+pub mod Striding
+pub mod Looking
+pub mod Moving
+pub mod Loans
+pub mod Taking

@@ -1,5 +1,0 @@
-use Rattle.thrift_compact.specs.States.{CanReadField}
-use Rattle.part_examples.proofs.thrift.find_fields.Given as goal
-
-abbrev pub invariant-loop-entry : goal.invariant-loop-entry
-invariant-loop-entry l = CanReadField l.reader

@@ -1,0 +1,4 @@
+pub mod Checked
+pub mod Nodes
+pub mod Orders
+pub mod Words

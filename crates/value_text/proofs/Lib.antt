@@ -1,0 +1,3 @@
+pub mod CutLaws
+pub mod TrimLaws
+pub mod IntTexts
