@@ -14,4 +14,5 @@ pub mod Sentences
 pub mod Calls
 pub mod Primaries
 pub mod Numbers
+pub mod Decimals
 pub mod Good

@@ -68,7 +68,7 @@ no_exponent : (rest : List ℕ) → begins is_letter rest ≡ false → exponent
 no_exponent [] e = refl
 no_exponent (b ∷ rest) e = if_false (b == 101 || b == 69) _ _ (no_mark b e)
 
-few : (n : ℕ) → n ≤ 38 → nat_lt 38 n ≡ false
+pub few : (n : ℕ) → n ≤ 38 → nat_lt 38 n ≡ false
 few n l = grind (arith, nat_tests)
 
 significant_few : (ds : List ℕ) → significant ds ≤ length ds
@@ -104,10 +104,27 @@ whole_token ds rest a l r =
     by_sizes (length ds) (length ds) ds bs (digit_run ds rest a r.digit) s x y (take-append_seam ds rest)
     ∙ (ap (λ q. parts_number q (drop (length ds) ds) ds bs) t ∙ (ap (λ q. parts_number ds q ds bs) u ∙ if_false (is_too_long ds []) _ _ (whole_short ds l)))
 
+some_fraction : (bs : List ℕ) (n : ℕ) → digits bs ≡ n → 0 < n → fraction_length (46 ∷ bs) ≡ n + 1
+some_fraction bs n d l =
+    let t : nat_lt 0 n ≡ true = lt-ltb 0 n l in
+    rw (d, t) refl
+
 -- digits, a point and digits
-point_token : (ds es rest : List ℕ) → all_ascii_digits ds ≡ true → all_ascii_digits es ≡ true → 0 < length es → is_too_long ds es ≡ false → AfterNumber rest
+pub point_token : (ds es rest : List ℕ) → all_ascii_digits ds ≡ true → all_ascii_digits es ≡ true → 0 < length es → is_too_long ds es ≡ false → AfterNumber rest
     → number_token ((ds ++ 46 ∷ es) ++ rest) ≡ point_number (ds ++ 46 ∷ es)
-point_token ds es rest a b some l r = ?
+point_token ds es rest a b some l r =
+    let raw = ds ++ 46 ∷ es in
+    let bs = raw ++ rest in
+    let e : bs ≡ ds ++ (46 ∷ (es ++ rest)) = append_assoc ds (46 ∷ es) rest in
+    let d : digits bs ≡ length ds = ap (λ q. digits q) e ∙ digit_run ds (46 ∷ (es ++ rest)) a refl in
+    let f : drop (length ds) bs ≡ 46 ∷ (es ++ rest) = ap (λ q. drop (length ds) q) e ∙ drop-append_seam ds (46 ∷ (es ++ rest)) in
+    let g : fraction_length (drop (length ds) bs) ≡ length es + 1 = ap fraction_length f ∙ some_fraction (es ++ rest) (length es) (digit_run es rest b r.digit) some in
+    let s : length ds + fraction_length (drop (length ds) bs) ≡ length raw = let n = length-append ds (46 ∷ es) in omega (arith, g, n) in
+    let h : drop (length raw) bs ≡ rest = drop-append_seam raw rest in
+    let x : exponent_length (drop (length raw) bs) ≡ 0 = ap exponent_length h ∙ no_exponent rest r.letter in
+    let y : begins is_letter (drop (length raw) bs) ≡ false = ap (λ q. begins is_letter q) h ∙ r.letter in
+    by_sizes (length ds) (length raw) raw bs d s x y (take-append_seam raw rest)
+    ∙ (ap (λ q. parts_number q (drop (length ds) raw) raw bs) (take-append_seam ds (46 ∷ es)) ∙ (ap (λ q. parts_number ds q raw bs) (drop-append_seam ds (46 ∷ es)) ∙ if_false (is_too_long ds es) _ _ l))
 
 -- ---- decimal numerals
 
@@ -121,14 +138,14 @@ ascii_digits (c ∷ cs) (h, rest) = rw (ascii_digit c h) (ascii_digits cs rest)
 pub decimal_digits : (n : ℕ) → n < 10 ^ 64 → (all_ascii_digits (decimal n) ≡ true) × (0 < length (decimal n))
 decimal_digits n h = let d = decimal_is_IsNumeral_wide n h in (ascii_digits (decimal n) d.0.1, d.0.0)
 
-digit_no_letter : (d : ℕ) → is_ascii_digit d ≡ true → is_letter d ≡ false
+pub digit_no_letter : (d : ℕ) → is_ascii_digit d ≡ true → is_letter d ≡ false
 digit_no_letter d e = grind (arith, nat_tests)
 
-digit_no_blank : (d : ℕ) → is_ascii_digit d ≡ true → is_blank d ≡ false
+pub digit_no_blank : (d : ℕ) → is_ascii_digit d ≡ true → is_blank d ≡ false
 digit_no_blank d e = grind (arith, nat_tests)
 
 -- digits in a text
-cut_digits : (ds rest : List ℕ) (place : ℕ) → all_ascii_digits ds ≡ true → 0 < length ds → length ds ≤ 38 → AfterNumber rest
+pub cut_digits : (ds rest : List ℕ) (place : ℕ) → all_ascii_digits ds ≡ true → 0 < length ds → length ds ≤ 38 → AfterNumber rest
     → cut place (ds ++ rest) ≡ record { at = place; token = whole_number ds } ∷ cut (place + length ds) rest
 unfolding token_from
 cut_digits [] rest place a some l r = absurd (omega (arith, some))
@@ -149,7 +166,7 @@ ascii_chars : (bs : List ℕ) → ((b : ℕ) (front back : List ℕ) → bs ≡ 
 ascii_chars [] low = chars-nil
 ascii_chars (b ∷ bs) low = first_char b bs (low b [] bs refl) ∙ ap (λ l. b ∷ l) (ascii_chars bs (λ c front back e. low c (b ∷ front) back (ap (λ l. b ∷ l) e)))
 
-digit_chars : (ds : List ℕ) → all_ascii_digits ds ≡ true → chars ds ≡ ds
+pub digit_chars : (ds : List ℕ) → all_ascii_digits ds ≡ true → chars ds ≡ ds
 digit_chars [] a = chars-nil
 digit_chars (d ∷ ds) a =
     let f : is_ascii_digit d ≡ true = and_left (is_ascii_digit d) (all_ascii_digits ds) a in
@@ -160,18 +177,18 @@ digit_other : (d x : ℕ) → is_ascii_digit d ≡ true → x < 48 → (d == x) 
 digit_other d x e l = grind (arith, nat_tests)
 
 -- a zero in front changes nothing
-zero_front : (d : ℕ) (ds : List ℕ) → is_ascii_digit d ≡ true → number_of (48 ∷ d ∷ ds) ≡ number_of (d ∷ ds)
+pub zero_front : (d : ℕ) (ds : List ℕ) → is_ascii_digit d ≡ true → number_of (48 ∷ d ∷ ds) ≡ number_of (d ∷ ds)
 unfolding number_of
 zero_front d ds f =
     let z : 0 * 10 + digit_value d ≡ digit_value d = omega arith in
     if_true (is_ascii_digit d) _ _ f ∙ (ap (λ n. in_whole false n ds) z
     ∙ sym (if_false (d == 32) _ _ (digit_other d 32 f (omega arith)) ∙ (if_false (d == 45) _ _ (digit_other d 45 f (omega arith)) ∙ (if_false (d == 43) _ _ (digit_other d 43 f (omega arith)) ∙ if_true (is_ascii_digit d) _ _ f))))
 
-printed_whole : (n : ℕ) → printed (decimal_of (pos n) 0) ≡ decimal n
+pub printed_whole : (n : ℕ) → printed (decimal_of (pos n) 0) ≡ decimal n
 unfolding printed
 printed_whole n = append-nil (decimal (n / 10 ^ 0)) ∙ ap decimal (div-one n)
 
-front_read : (ds : List ℕ) → all_ascii_digits ds ≡ true → 0 < length ds → number_of (48 ∷ ds) ≡ number_of ds
+pub front_read : (ds : List ℕ) → all_ascii_digits ds ≡ true → 0 < length ds → number_of (48 ∷ ds) ≡ number_of ds
 front_read [] a l = absurd (omega (arith, l))
 front_read (d ∷ ds) a l = zero_front d ds (and_left (is_ascii_digit d) (all_ascii_digits ds) a)
 

@@ -33,11 +33,11 @@ use Rattle.sql_printed.proofs.Calls.{own-call, forms-given}
 -- ---- one token that is an expression
 
 -- what a literal that was spelled tells
-record IsLiteral (spelled : Symbol → Expr) (n : ℕ) (p : Expr × ℕ) : Type 0 where
-  symbol : Symbol
-  good : GoodToken symbol.token
-  is : spelled symbol ≡ p.0
-  counts : n ≡ suc p.1
+pub record IsLiteral (spelled : Symbol → Expr) (n : ℕ) (p : Expr × ℕ) : Type 0 where
+  pub symbol : Symbol
+  pub good : GoodToken symbol.token
+  pub is : spelled symbol ≡ p.0
+  pub counts : n ≡ suc p.1
 
 abbrev pub fault_verdict : Verdict Fault Expr → Verdict Fault Expr
 fault_verdict v = v
@@ -46,13 +46,13 @@ look_taken : (t : Bool) (a b : Expr) → fault_verdict (if t then takes a else r
 look_taken true a b e = cc
 look_taken false a b e = absurd (let no : ⊥ = cc in no)
 
-spelled_literal : (test : Class → Bool) (spelled : Symbol → Expr) (n : ℕ) (p : Expr × ℕ) (ts : List Symbol) → AllGood ts → (literal test spelled n).Spells p ts → IsLiteral spelled n p
+pub spelled_literal : (test : Class → Bool) (spelled : Symbol → Expr) (n : ℕ) (p : Expr × ℕ) (ts : List Symbol) → AllGood ts → (literal test spelled n).Spells p ts → IsLiteral spelled n p
 spelled_literal test spelled n p ts good w =
     let c = counted_one too_many (λ s. if test (class s) then takes (spelled s) else refuses) n p ts w in
     record { symbol = c.one.symbol; good = good_one ts c.one.symbol c.one.is good; is = look_taken (test (class c.one.symbol)) (spelled c.one.symbol) p.0 c.one.taken; counts = c.counts }
 
 -- an expression that is one token
-own-literal : (test : Class → Bool) (spelled : Symbol → Expr) (known : Form) (d n : ℕ) (p : Expr × ℕ) (ts : List Symbol) (text : List ℕ) → n ≡ suc p.1 → shown p.0 ≡ form 0 text
+pub own-literal : (test : Class → Bool) (spelled : Symbol → Expr) (known : Form) (d n : ℕ) (p : Expr × ℕ) (ts : List Symbol) (text : List ℕ) → n ≡ suc p.1 → shown p.0 ≡ form 0 text
     → OnePrints (λ s. if test (class s) then takes (spelled s) else refuses) p.0 text
     → ((f i : ℕ) (q : Expr × ℕ) (us : List Symbol) → (literal test spelled i).Spells q us → (primary_of (room_of f) (inner_of f) known i).Spells q us) → Own d n p.1 0 p.0
 unfolding primary
