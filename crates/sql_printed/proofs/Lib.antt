@@ -15,4 +15,5 @@ pub mod Calls
 pub mod Primaries
 pub mod Numbers
 pub mod Decimals
+pub mod Paths
 pub mod Good
