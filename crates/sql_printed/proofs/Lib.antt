@@ -16,4 +16,6 @@ pub mod Primaries
 pub mod Numbers
 pub mod Decimals
 pub mod Paths
+pub mod Casts
+pub mod Cases
 pub mod Good

@@ -136,11 +136,11 @@ stamp_prints part.Second place rest c = part_looks stamp_part part.Second (codes
 stamp_prints part.TimezoneHour place rest c = part_looks stamp_part part.TimezoneHour (codes "TIMEZONE_HOUR") rest place refl (λ b. elim b as (λ b. told_by (stamp_part (class_of_word b (codes "TIMEZONE_HOUR"))) ≡ takes part.TimezoneHour) [ true ↦ refl | false ↦ refl ]) (clear_words rest c)
 stamp_prints part.TimezoneMinute place rest c = part_looks stamp_part part.TimezoneMinute (codes "TIMEZONE_MINUTE") rest place refl (λ b. elim b as (λ b. told_by (stamp_part (class_of_word b (codes "TIMEZONE_MINUTE"))) ≡ takes part.TimezoneMinute) [ true ↦ refl | false ↦ refl ]) (clear_words rest c)
 
-from_word : Word (of k.From) (codes " FROM ")
+pub from_word : Word (of k.From) (codes " FROM ")
 unfolding class_of_word same_class
 from_word = keyword_blanks k.From (codes "FROM") refl
 
-starts_from : (x : Expr) → Starts (codes " FROM " ++ (shown x).text)
+pub starts_from : (x : Expr) → Starts (codes " FROM " ++ (shown x).text)
 unfolding is_clear
 starts_from x rest c = refl
 
