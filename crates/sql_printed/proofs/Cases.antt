@@ -32,7 +32,7 @@ use Rattle.sql_printed.proofs.Primaries.{from_word, starts_from}
 
 -- ---- blanks, and a word at the end
 
-told-blank : {A : Type 0} (G : ℕ → Counting A) (d n m : ℕ) (a : A) (text : List ℕ) → Told G d n m a text → Told G d n m a (codes " " ++ text)
+pub told-blank : {A : Type 0} (G : ℕ → Counting A) (d n m : ℕ) (a : A) (text : List ℕ) → Told G d n m a text → Told G d n m a (codes " " ++ text)
 unfolding cut
 told-blank G d n m a text t = record {
   used = t.used;

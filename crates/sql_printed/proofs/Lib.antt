@@ -18,4 +18,6 @@ pub mod Decimals
 pub mod Paths
 pub mod Casts
 pub mod Cases
+pub mod Trims
+pub mod Whole
 pub mod Good
