@@ -186,7 +186,7 @@ type_again d n p ts good w =
 
 -- ---- CAST
 
-as_word : Word (of k.As) (codes " AS ")
+pub as_word : Word (of k.As) (codes " AS ")
 unfolding class_of_word same_class
 as_word = keyword_blanks k.As (codes "AS") refl
 

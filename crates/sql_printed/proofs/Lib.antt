@@ -20,4 +20,5 @@ pub mod Casts
 pub mod Cases
 pub mod Trims
 pub mod Whole
+pub mod Items
 pub mod Good

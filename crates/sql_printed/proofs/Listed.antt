@@ -25,7 +25,7 @@ pub record IsItem {A : Type 0} (G : Counting A) (most n : ℕ) (p : A × (ℕ ×
   pub room : most ≡ suc p.1.0
   pub spelled : (G n).Spells (p.0, p.1.1) ts
 
-none_told : {A : Type 0} (over : Symbol → Option Fault) (a : A) (ts : List Symbol) → (terminal (λ t. told (over t))).Spells a ts → ⊥
+pub none_told : {A : Type 0} (over : Symbol → Option Fault) (a : A) (ts : List Symbol) → (terminal (λ t. told (over t))).Spells a ts → ⊥
 none_told over a [] w = w
 none_told over a (t ∷ u ∷ ts) w = w
 none_told {A = A} over a (t ∷ []) w = by (over t) w
