@@ -21,4 +21,5 @@ pub mod Cases
 pub mod Trims
 pub mod Whole
 pub mod Items
+pub mod Sources
 pub mod Good

@@ -6,7 +6,7 @@ use Rattle.std.proofs.lemmas.Bool.{leb-true}
 use Rattle.sql_tokens.specs.declared.class.Class.{Class}
 use Rattle.sql_tokens.specs.declared.class.Class.TheVariants as k
 use Rattle.sql_tokens.specs.Classes.{same_class}
-use Rattle.sql_tokens.specs.TokenForms.{Token, word, quoted_name, text_literal, whole_number, point_number, exponent_number, punctuation, unfit, class_of, begins, is_letter, is_word_byte, is_called}
+use Rattle.sql_tokens.specs.TokenForms.{Token, word, quoted_name, text_literal, whole_number, point_number, exponent_number, punctuation, unfit, class_of, begins, is_blank, is_letter, is_word_byte, is_called}
 use Rattle.sql_tokens.specs.Keywords.{keywords}
 use Rattle.sql_tokens.specs.Cutting.{Symbol, cut, first_unfit, is_unfit}
 use Rattle.grammar_rules.specs.Rules.{Rule, Verdict, takes, faults, refuses, terminal, token, nothing, made, either}
@@ -77,10 +77,30 @@ name_starts (exponent_number raw) g e rest = absurd (let no : ⊥ = cc in no)
 name_starts (punctuation c) g e rest = absurd (let no : ⊥ = cc in no)
 name_starts (unfit raw) g e rest = absurd (let no : ⊥ = cc in no)
 
+letter_no_blank : (b : ℕ) → is_letter b ≡ true → is_blank b ≡ false
+letter_no_blank b e = grind (arith, nat_tests)
+
+letter_no_bracket : (b : ℕ) → is_letter b ≡ true → (b == 40) ≡ false
+letter_no_bracket b e = grind (arith, nat_tests)
+
+name_uncalled : (t : Token) → GoodToken t → is_name (class_of t) ≡ true → (rest : List ℕ) → is_called (name_text (name_of t) ++ rest) ≡ false
+name_uncalled (word called []) g e rest = absurd (let no : ⊥ = cc in no)
+name_uncalled (word called (b ∷ w)) g e rest =
+    let l = and_left (is_letter b) _ g in
+    rw (letter_no_blank b l) (letter_no_bracket b l)
+name_uncalled (quoted_name called raw) g e rest = refl
+name_uncalled (text_literal raw) g e rest = absurd (let no : ⊥ = cc in no)
+name_uncalled (whole_number raw) g e rest = absurd (let no : ⊥ = cc in no)
+name_uncalled (point_number raw) g e rest = absurd (let no : ⊥ = cc in no)
+name_uncalled (exponent_number raw) g e rest = absurd (let no : ⊥ = cc in no)
+name_uncalled (punctuation c) g e rest = absurd (let no : ⊥ = cc in no)
+name_uncalled (unfit raw) g e rest = absurd (let no : ⊥ = cc in no)
+
 -- a name that was spelled
 pub record NameTold (test : Class → Bool) (n : Name) : Type 0 where
   pub prints : NamePrints test n
   pub starts : (rest : List ℕ) → begins is_ascii_digit (name_text n ++ rest) ≡ false
+  pub uncalled : (rest : List ℕ) → is_called (name_text n ++ rest) ≡ false
 
 abbrev name_verdict : Verdict Fault Name → Verdict Fault Name
 name_verdict v = v
@@ -92,7 +112,7 @@ name_told test h i q s n g e = by (test (class s)) refl e
     by : (t : Bool) → test (class s) ≡ t → name_verdict (if t then takes (name_of s.token) else refuses) ≡ takes n → NameTold test n
     by true f x =
         let same : name_of s.token ≡ n = cc in
-        subst (NameTold test) same (record { prints = name_prints test s.token h i q g f; starts = name_starts s.token g (i (class s) f) })
+        subst (NameTold test) same (record { prints = name_prints test s.token h i q g f; starts = name_starts s.token g (i (class s) f); uncalled = name_uncalled s.token g (i (class s) f) })
     by false f x = absurd (let no : ⊥ = cc in no)
 
 path_is_name : (c : Class) → is_path_name c ≡ true → is_name c ≡ true
@@ -134,7 +154,7 @@ record IsStep (n : ℕ) (p : PathStep × ℕ) : Type 0 where
   same : p.1 ≡ n
   prints : (j place : ℕ) (rest : List ℕ) → after_name rest ≡ true → Cuts (path_step j) (p.0, j) (path_step_text p.0) rest place
 
-after_bracket : (rest : List ℕ) → AfterNumber (codes "]" ++ rest)
+pub after_bracket : (rest : List ℕ) → AfterNumber (codes "]" ++ rest)
 after_bracket rest = record { digit = refl; point = refl; letter = refl }
 
 member_prints : (x : Name) → NameTold is_name x → (j place : ℕ) (rest : List ℕ) → after_name rest ≡ true → Cuts (path_step j) (step.Member x, j) (path_step_text (step.Member x)) rest place
