@@ -22,4 +22,5 @@ pub mod Trims
 pub mod Whole
 pub mod Items
 pub mod Sources
+pub mod QueryTexts
 pub mod Good

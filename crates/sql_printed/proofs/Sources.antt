@@ -1,11 +1,12 @@
 -- The source of a query is told again.
-use Rattle.std.proofs.Common.{◌≡◌, ℕ, zero, suc, ◌+◌, ◌-◌, ◌≤◌, ◌<◌, ◌==◌, ◌&&◌, not, nat_lt, nat_le, Bool, true, false, List, [], ◌∷◌, ◌++◌, length, Option, Some, None, refl, sym, ap, ◌∙◌, subst, arith, append_assoc, if◌then◌else◌, codes, decimal}
+use Rattle.std.proofs.Common.{◌≡◌, ℕ, zero, suc, ◌+◌, ◌-◌, ◌≤◌, ◌<◌, ◌==◌, ◌&&◌, not, nat_lt, nat_le, Bool, true, false, List, [], ◌∷◌, ◌++◌, length, drop, Option, Some, None, refl, sym, ap, ◌∙◌, subst, arith, append_assoc, if◌then◌else◌, codes, decimal}
+use Rattle.std.specs.List.{prefix_len}
 use Rattle.std.proofs.lemmas.Bool.{leb-true}
 use Rattle.std.proofs.lemmas.Bool.Decides.{nat_tests}
 use Rattle.sql_tokens.specs.declared.class.Class.{Class}
 use Rattle.sql_tokens.specs.declared.class.Class.TheVariants as k
 use Rattle.sql_tokens.specs.Keywords.{class_of_word}
-use Rattle.sql_tokens.specs.TokenForms.{word, begins, is_word_byte, is_called}
+use Rattle.sql_tokens.specs.TokenForms.{word, begins, is_blank, is_word_byte, is_called}
 use Rattle.sql_tokens.specs.Cutting.{Symbol, cut}
 use Rattle.grammar_rules.specs.Rules.{Rule, terminal, token, made, either}
 use Rattle.grammar_rules.specs.Counted.{plain, given, both, past, before, many_from, bounded_from, item}
@@ -22,7 +23,7 @@ use Rattle.sql_printed.specs.Printed.{step_text, steps_front, alias_text, source
 use Rattle.sql_printed.proofs.Telling.{is_clear, Cuts, IsWord, Told, cuts-into, cuts-past, cuts-before, cuts-sequence, cuts-nothing, fit-one, fit-append}
 use Rattle.sql_printed.proofs.Words.{and_left, and_right, cut_word, dot, left_bracket, right_bracket, star}
 use Rattle.sql_printed.proofs.Names.{after_name, clear_name}
-use Rattle.sql_printed.proofs.Again.{AllGood, good_left, good_right, good_one, taken_one, cuts-one}
+use Rattle.sql_printed.proofs.Again.{AllGood, Again, good_left, good_right, good_one, taken_one, cuts-one}
 use Rattle.sql_printed.proofs.Listed.{spelled_item}
 use Rattle.sql_printed.proofs.Paths.{NameTold, any_name_told, name_one, digits_taken, digits_print, after_bracket}
 use Rattle.sql_printed.proofs.Items.{names}
@@ -186,3 +187,121 @@ source_steps_print (step.All ∷ xs) f l j place rest a =
     let second = steps_print 64 (step.All ∷ xs) f l j first.next rest a in
     let c = cuts-sequence (all_step j) (λ p. steps 64 p.1) (step.All, j) (step.All ∷ xs, j) (codes "[*]") more rest place first second in
     record { symbols = c.symbols; next = c.next; is = c.is; spelled = (true, c.spelled); fit = c.fit }
+
+-- ---- the source
+
+-- the steps of a source, as many as may come
+record StepsTold (most n : ℕ) (p : List Step × ℕ) : Type 0 where
+  fit : StepsFit p.0
+  room : length p.0 ≤ most
+  same : p.1 ≡ n
+
+steps_of : (most n : ℕ) (p : List Step × ℕ) (ts : List Symbol) → AllGood ts → (steps most n).Spells p ts → StepsTold most n p
+steps_of most n p ts good w =
+    let s = steps_told w.2.0 most n w.0 ts good w.2.1 in
+    subst (StepsTold most n) w.1 (record { fit = s.fit; room = let r = s.room in omega (arith, r); same = s.same })
+
+source_steps_told : (n : ℕ) (p : List Step × ℕ) (ts : List Symbol) → AllGood ts → (source_steps n).Spells p ts → StepsTold 64 n p
+source_steps_told n p ts good (true, j) =
+    let first = step_told n j.value j.left (good_left ts j.left j.right j.joined good) (false, j.whole) in
+    let s = steps_of 64 j.value.1 p j.right (good_right ts j.left j.right j.joined good) j.after in
+    record { fit = s.fit; room = s.room; same = s.same ∙ first.same }
+source_steps_told n p ts good (false, (true, j)) =
+    let first = own_told n j.value j.left (good_left ts j.left j.right j.joined good) j.whole in
+    let x = j.after in
+    let s = steps_of 63 j.value.1 x.0 j.right (good_right ts j.left j.right j.joined good) x.2 in
+    subst (StepsTold 64 n) x.1 (record { fit = (first.fit, s.fit); room = let r = s.room in omega (arith, r); same = s.same ∙ first.same })
+source_steps_told n p ts good (false, (false, w)) = subst (StepsTold 64 n) w.0 (record { fit = tt; room = omega arith; same = refl })
+
+abbrev AliasFit : Option Name → Type 0
+AliasFit None = Unit {0}
+AliasFit (Some x) = NameTold is_name x
+
+record AliasTold (n : ℕ) (p : Option Name × ℕ) : Type 0 where
+  fit : AliasFit p.0
+  same : p.1 ≡ n
+
+names_told : (n : ℕ) (p : Name × ℕ) (ts : List Symbol) → AllGood ts → (names n).Spells p ts → AliasTold n (Some p.0, p.1)
+names_told n p ts good w =
+    let t = taken_one name w.0 ts w.2 in
+    subst (λ v. AliasTold n (Some v.0, v.1)) w.1 (record { fit = any_name_told t.symbol w.0 (good_one ts t.symbol t.is good) t.taken; same = refl })
+
+alias_told : (n : ℕ) (p : Option Name × ℕ) (ts : List Symbol) → AllGood ts → (alias n).Spells p ts → AliasTold n p
+alias_told n p ts good (false, w) = subst (AliasTold n) w.0 (record { fit = tt; same = refl })
+alias_told n p ts good (true, w) = subst (AliasTold n) w.1 (by w.2)
+  where
+    by : (either (past (of k.As) names n) (names n)).Spells w.0 ts → AliasTold n (Some w.0.0, w.0.1)
+    by (true, v) = names_told n w.0 v.right (good_right ts v.left v.right v.joined good) v.after
+    by (false, v) = names_told n w.0 ts good v
+
+alias_print : (o : Option Name) → AliasFit o → (j place : ℕ) (rest : List ℕ) → is_clear rest ≡ true → Cuts (alias j) (o, j) (alias_text o) rest place
+unfolding cut
+alias_print None f j place rest c = cuts-nothing (alias j) (None, j) rest place (false, (refl, refl))
+alias_print (Some x) f j place rest c =
+    let one = name_one is_name x rest (place + 1) (f.prints (place + 1) rest (clear_name rest c)) in
+    record { symbols = one.symbol ∷ []; next = one.next; is = one.is; spelled = (true, ((x, j), refl, (false, (x, refl, one.taken)))); fit = fit-one one.symbol [] one.fit refl }
+
+blank_front : (r : List ℕ) → is_called (32 ∷ r) ≡ is_called r
+blank_front r = let z : 1 + prefix_len is_blank r ≡ suc (prefix_len is_blank r) = omega arith in ap (λ n. begins (λ b. b == 40) (drop n (32 ∷ r))) z
+
+alias_start : (o : Option Name) → AliasFit o → (rest : List ℕ) → is_clear rest ≡ true → after_name (alias_text o ++ rest) ≡ true
+alias_start None f rest c = clear_name rest c
+alias_start (Some x) f rest c = ap not (blank_front (name_text x ++ rest) ∙ f.uncalled rest)
+
+not_true : (t : Bool) → not t ≡ true → t ≡ false
+not_true true e = cc
+not_true false e = refl
+
+no_word : (rest : List ℕ) → after_name rest ≡ true → begins is_word_byte rest ≡ false
+no_word rest a = not_true (begins is_word_byte rest) (and_left (not (begins is_word_byte rest)) (not (begins (λ c. c == 34) rest) && not (is_called rest)) a)
+
+source_word : (rest : List ℕ) (place : ℕ) → begins is_word_byte rest ≡ false → IsWord (λ s. is_source (class s)) (codes "S3Object") rest place
+unfolding class_of_word
+source_word rest place b = record {
+  symbol = record { at = place; token = word (is_called rest) (codes "S3Object") };
+  next = place + 8;
+  is = cut_word place (codes "S3Object") rest refl b;
+  passes = elim (is_called rest) as (λ c. is_source (class_of_word c (codes "S3Object")) ≡ true) [ true ↦ refl | false ↦ refl ];
+  fit = refl;
+}
+
+front_start : (xs : List Step) (rest : List ℕ) → after_name rest ≡ true → after_name ((steps_front xs ++ print_all step_text xs) ++ rest) ≡ true
+front_start [] rest a = a
+front_start (step.Member x ∷ xs) rest a = steps_start (step.Member x ∷ xs) rest a
+front_start (step.Element x ∷ xs) rest a = steps_start (step.Element x ∷ xs) rest a
+front_start (step.All ∷ xs) rest a = refl
+
+source_told : (n : ℕ) (xs : List Step) (o : Option Name) → StepsFit xs → length xs ≤ 64 → AliasFit o → Told (λ f. source) 0 n n (xs, o) (source_text xs o)
+unfolding source
+source_told n xs o f l g = record {
+  used = 0;
+  within = omega arith;
+  prints = λ e below j place rest c.
+      let z : 0 + j ≡ j = omega arith in
+      let text = steps_front xs ++ print_all step_text xs in
+      let a = alias_start o g rest c in
+      let same : text ++ alias_text o ≡ steps_front xs ++ (print_all step_text xs ++ alias_text o) = append_assoc (steps_front xs) (print_all step_text xs) (alias_text o) in
+      let back : (text ++ alias_text o) ++ rest ≡ text ++ (alias_text o ++ rest) = append_assoc text (alias_text o) rest in
+      let b : begins is_word_byte ((text ++ alias_text o) ++ rest) ≡ false = ap (λ q. begins is_word_byte q) back ∙ no_word (text ++ (alias_text o ++ rest)) (front_start xs (alias_text o ++ rest) a) in
+      let first = source_word ((text ++ alias_text o) ++ rest) place b in
+      let H = λ (p : List Step × ℕ). made (λ q. ((p.0, q.0), q.1)) (alias p.1) in
+      let one = source_steps_print xs f l j first.next (alias_text o ++ rest) a in
+      let two = alias_print o g j one.next rest c in
+      let boxed = cuts-into (alias j) (H (xs, j)) (o, j) ((xs, o), j) (alias_text o) rest one.next (λ ts w. ((o, j), refl, w)) two in
+      let body = cuts-sequence (source_steps j) H (xs, j) ((xs, o), j) text (alias_text o) rest first.next one boxed in
+      let all = cuts-past (both source_steps alias j) (λ s. is_source (class s)) ((xs, o), j) (codes "S3Object") (text ++ alias_text o) rest place first body in
+      rw z (subst (λ t. Cuts (source j) ((xs, o), j) (codes "S3Object" ++ t) rest place) same all);
+}
+
+pub source_again : Again source (λ f. source) 0 (λ p. source_text p.0 p.1)
+unfolding source
+source_again n p ts good w =
+    let j = w.after in
+    let g = good_right ts w.left w.right w.joined good in
+    let s = source_steps_told n j.value j.left (good_left w.right j.left j.right j.joined g) j.whole in
+    let q = j.after.0 in
+    let a = alias_told j.value.1 q j.right (good_right w.right j.left j.right j.joined g) j.after.2 in
+    let t = source_told n j.value.0 q.0 s.fit s.room a.fit in
+    let m : n ≡ q.1 = sym (a.same ∙ s.same) in
+    subst (λ v. Told (λ f. source) 0 n v.1 v.0 (source_text v.0.0 v.0.1)) j.after.1
+    (subst (λ y. Told (λ f. source) 0 n y (j.value.0, q.0) (source_text j.value.0 q.0)) m t)
