@@ -100,10 +100,10 @@ starts_limit None rest c = c
 starts_limit (Some n) rest c = refl
 
 starts_filter : (q : Option Expr × Option ℕ) → Starts (filter_text q.0 ++ limit_text q.1)
+unfolding is_clear
 starts_filter q = by q.0
   where
     by : (o : Option Expr) → Starts (filter_text o ++ limit_text q.1)
-    unfolding is_clear
     by None rest c = starts_limit q.1 rest c
     by (Some x) rest c = refl
 
@@ -163,9 +163,6 @@ cut_nothing : (at : ℕ) → cut at [] ≡ []
 unfolding cut
 cut_nothing at = refl
 
-printed_text : Selected → (List Step × Option Name) × (Option Expr × Option ℕ) → List ℕ
-printed_text x q = codes "SELECT " ++ (selection_text (selection_of x) ++ back_text q)
-
 abbrev written_as : Selected × ((List Step × Option Name) × (Option Expr × Option ℕ)) → Written
 written_as p = written_of p.0 p.1.0 p.1.1.0 p.1.1.1
 
@@ -175,7 +172,7 @@ record Told_text (w : Written) (text : List ℕ) : Type 0 where
   spelled : query.Spells w (symbols_of text)
 
 whole_text : (w : Written) (m : ℕ) (text : List ℕ) → Told (λ f. whole_query) 0 4096 m w text → Told_text w text
-unfolding query
+unfolding query is_clear
 whole_text w m text t =
     let j = 4096 - t.used in
     let sum : t.used + j ≡ 4096 = let a = t.within in omega (arith, a) in
