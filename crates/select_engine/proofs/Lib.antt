@@ -1,5 +1,9 @@
 mod BoundLaws
 mod Contents
 mod Framing
+mod LineLaws
+mod OneAsked
+mod SelectedLaws
 mod StreamLaws
+mod TilingLaws
 mod WindowSteps

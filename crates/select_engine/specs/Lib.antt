@@ -4,4 +4,7 @@ pub mod LineTurns
 pub mod Prepared
 pub mod RecordYields
 pub mod Records
+pub mod Selected
 pub mod Streaming
+pub mod Tiling
+pub mod Turns

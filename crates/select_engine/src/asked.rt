@@ -49,10 +49,8 @@ fn is_built(request: &SelectRequest) -> bool
     ensures { result ≡ is_built request.now }
 {
     request.expression.text() == "SELECT * FROM S3Object"
-        && !request.progress
         && is_plain_input(request.input)
         && is_plain_output(request.output)
-        && request.range.is_none()
 }
 
 // Whether the object is CSV with every setting at its default.
