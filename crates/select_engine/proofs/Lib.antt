@@ -2,6 +2,7 @@ mod BoundLaws
 mod Contents
 mod Framing
 mod LineLaws
+mod LineStreams
 mod OneAsked
 mod SelectedLaws
 mod StreamLaws
