@@ -1,6 +1,7 @@
 mod BoundLaws
 mod Contents
 mod Framing
+mod JobLaws
 mod LineLaws
 mod LineStreams
 mod OneAsked

@@ -85,6 +85,11 @@ abbrev pub IsAskedOf : SelectRequest → Asked → Type 0
 IsAskedOf request (asked.Refused code at) = (is_built request ≡ false) × (code ≡ NotBuilt) × (at ≡ 0)
 IsAskedOf request (asked.Asks other) = (other ≡ request) × (is_built request ≡ true)
 
+-- a request that is asked is built
+abbrev pub IsBuiltIfAsked : Asked → Type 0
+IsBuiltIfAsked (asked.Refused code at) = Unit {0}
+IsBuiltIfAsked (asked.Asks request) = is_built request ≡ true
+
 -- a body asks one thing
 abbrev pub EachAsksOneThing : Type 0
 EachAsksOneThing = (body : List ℕ) (asked other : Asked) → Prepares body asked → Prepares body other → asked ≡ other

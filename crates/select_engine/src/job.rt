@@ -15,7 +15,7 @@ ghost use Rattle.select_engine.specs.Jobs.{Answers, WritesReply, WroteEarly, Has
 
 use crate::line::answer;
 use crate::outcome::EngineError;
-use line_window::Window;
+use line_window::{Window, adjacent_ranges_append};
 use scan_ranges::resolve_range;
 use select_ports::{Failed, FrameSink, Limits, Store};
 use select_reply::{Code, Outcome, ReplyWriter, replies_grow_by_records};
@@ -54,6 +54,7 @@ pub fn run_job<S: Store, K: FrameSink>(
     ensures out_faults { K.faults out.old ≤ K.faults out.new }
     ensures rest { K.rest out.new ≡ K.rest out.old }
 {
+    adjacent_ranges_append();
     let Ok(mut window) = Window::open(alloc, limits, b"\n") else {
         return Err(EngineError::OutOfMemory);
     };
