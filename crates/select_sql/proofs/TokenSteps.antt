@@ -1,14 +1,14 @@
 -- The steps of the functions on single tokens.
-use Rattle.std.proofs.Common.{◌≡◌, ◌||◌, Bool, true, false, not, List, [], ◌∷◌, refl}
+use Rattle.std.proofs.Common.{◌≡◌, ◌||◌, Bool, true, false, not, List, [], ◌∷◌, drop, Option, Some, None, refl}
 use Rattle.std.specs.List.{list_all}
 use Rattle.sql_tokens.specs.declared.class.Class.{Class}
 use Rattle.sql_tokens.specs.declared.class.Class.TheVariants as k
 use Rattle.sql_tokens.specs.Classes.{same_class, all_classes}
 use Rattle.sql_tokens.specs.Cutting.{Symbol, first_class}
 use Rattle.sql_tokens.proofs.ClassLaws.{every}
-use Rattle.grammar_rules.specs.Readers.{starts}
+use Rattle.grammar_rules.specs.Readers.{found, failed, starts, read_terminal}
 use Rattle.grammar_rules.proofs.Classes.{agree}
-use Rattle.sql_grammar.specs.Marks.{of, is_name}
+use Rattle.sql_grammar.specs.Marks.{Fault, class, of, is_name, told_by, one_told}
 use Rattle.select_sql.specs.Parsing.{is_token, between}
 use Rattle.sql_grammar.proofs.ExpressionReads.{same_truth}
 
@@ -35,3 +35,13 @@ at_end c h = not_both (same_class c k.NoToken) (implied (is_token c) (not (same_
 pub sees_first : (c : Class) (ts : List Symbol) → is_token c ≡ true → same_class c (first_class ts) ≡ starts (of c) ts
 sees_first c [] h = at_end c h
 sees_first c (t ∷ ts) h = refl
+
+-- ---- tokens that are told by their class
+
+pub told_refused : {A : Type 0} (tell : Class → Option A) (ts : List Symbol) → tell (first_class ts) ≡ None → read_terminal (one_told tell) ts ≡ failed None ts
+told_refused tell [] h = refl
+told_refused tell (s ∷ ts) h = rw h refl
+
+pub told_found : {A : Type 0} (tell : Class → Option A) (ts left : List Symbol) (a : A) → tell k.NoToken ≡ None → tell (first_class ts) ≡ Some a → left ≡ drop 1 ts → read_terminal (one_told tell) ts ≡ found a left
+told_found tell [] left a none h l = let p : Some a ≡ None = cc in cc
+told_found tell (s ∷ ts) left a none h l = rw (l, h) refl

@@ -12,10 +12,10 @@ use sqlite_items::Items;
 use std::alloc::Global;
 
 /// The greatest index of an element.
-const MAX_INDEX: u64 = 9_223_372_036_854_775_807;
+pub(crate) const MAX_INDEX: u64 = 9_223_372_036_854_775_807;
 
 /// Whether a step of a path begins here.
-fn is_step(class: Class) -> bool
+pub(crate) fn is_step(class: Class) -> bool
     ensures { result ≡ is_step class }
 {
     match class {
@@ -40,7 +40,7 @@ fn path_step(alloc: Global, tokens: &mut Tokens<'_>) -> Result<PathStep, Stop>
 }
 
 /// Whether a token of this class is a name that isn't before `(`.
-fn is_path_name(class: Class) -> bool
+pub(crate) fn is_path_name(class: Class) -> bool
     ensures { result ≡ is_path_name class }
 {
     match class {

@@ -1,8 +1,8 @@
 //! Single tokens of a query: names, texts, numbers and marks.
-ghost use Rattle.std.specs.Prelude.{◌≡◌, true, false, IfOk};
+ghost use Rattle.std.specs.Prelude.{◌≡◌, ◌≤◌, true, false, IfOk};
 ghost use Rattle.grammar_rules.specs.Readers.{starts, read_terminal};
 ghost use Rattle.sql_grammar.specs.Marks.{of, is_name, name, text, whole_of, digits_within};
-ghost use Rattle.select_sql.specs.Parsing.{Gives, Expects, is_token, between, name_at, text_at, number_at};
+ghost use Rattle.select_sql.specs.Parsing.{Gives, Expects, is_token, between, name_at, text_at, number_at, read_open};
 
 use crate::stop::Stop;
 use sql_decimal::Num;
@@ -31,8 +31,23 @@ pub(crate) fn expect(tokens: &mut Tokens<'_>, class: Class) -> Result<(), Stop>
     Ok(())
 }
 
+/// Passes a `(`, where there is room for one.
+#[tactic(auto, unfolding(crate::specs::Parsing::read_open), using(crate::proofs::OpenSteps::open_refused, crate::proofs::OpenSteps::open_deep, crate::proofs::OpenSteps::open_taken))]
+pub(crate) fn open(tokens: &mut Tokens<'_>, room: bool) -> Result<(), Stop>
+    ensures { Gives (read_open room tokens.old.symbols) result tokens.new.symbols }
+{
+    if !sees(tokens, Class::LeftParenthesis) {
+        return Err(Stop::Refused);
+    }
+    if !room {
+        return Err(Stop::TooDeep);
+    }
+    tokens.skip();
+    Ok(())
+}
+
 /// Whether the class is one of these, which stand together.
-fn is_between(class: Class, first: Class, last: Class) -> bool
+pub(crate) fn is_between(class: Class, first: Class, last: Class) -> bool
     ensures { result ≡ between first last class }
 {
     first.code() <= class.code() && class.code() <= last.code()
@@ -118,7 +133,8 @@ fn whole(number: Num) -> Option<u64>
 
 /// Passes digits whose value is within these bounds.
 pub(crate) fn digits(tokens: &mut Tokens<'_>, least: u64, most: u64) -> Result<u64, Stop>
-    ensures { Gives (read_terminal (digits_within least most) tokens.old.symbols) result tokens.new.symbols }
+    ensures gives { Gives (read_terminal (digits_within least most) tokens.old.symbols) result tokens.new.symbols }
+    ensures within { IfOk result (λ value. value ≤ most) }
 {
     if !sees(tokens, Class::WholeNumber) {
         return Err(Stop::Refused);

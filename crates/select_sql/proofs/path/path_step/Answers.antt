@@ -26,7 +26,7 @@ returns-in_err-place c =
     let p = err_from_is_err_and c.from_residual-in_err-place.result c.from_residual-in_err-place.ensures.1 in
     let h = c.in_ok-expect.ensures in
     rw (p.1, p.2)
-    (λ n m. element_failed c.args.tokens.now.symbols c.expect.new.tokens.symbols h.1 (sym c.sees.ensures ∙ c.if-sees.false) h.0 (fault_of c.in_err-place.field-0.0) c.digits.new.tokens.symbols (c.in_err-place.ensures m) n)
+    (λ n m. element_failed c.args.tokens.now.symbols c.expect.new.tokens.symbols h.1 (sym c.sees.ensures ∙ c.if-sees.false) h.0 (fault_of c.in_err-place.field-0.0) c.digits.new.tokens.symbols (c.in_err-place.ensures.gives m) n)
 
 pub returns-in_err-expect-2 : goal.returns-in_err-expect-2
 returns-in_err-expect-2 c =
@@ -34,11 +34,11 @@ returns-in_err-expect-2 c =
     let h = c.in_ok-expect.ensures in
     let g = c.in_err-expect-2.ensures in
     rw (p.1, p.2, g.2, g.1)
-    (λ n m. element_open c.args.tokens.now.symbols c.expect.new.tokens.symbols h.1 (sym c.sees.ensures ∙ c.if-sees.false) h.0 c.in_ok-place.place c.digits.new.tokens.symbols c.in_ok-place.ensures g.0 n)
+    (λ n m. element_open c.args.tokens.now.symbols c.expect.new.tokens.symbols h.1 (sym c.sees.ensures ∙ c.if-sees.false) h.0 c.in_ok-place.place c.digits.new.tokens.symbols c.in_ok-place.ensures.gives g.0 n)
 
 pub returns : goal.returns
 returns c =
     let h = c.in_ok-expect.ensures in
     let g = c.in_ok-expect-2.ensures in
     rw g.1
-    (λ n. element_found c.args.tokens.now.symbols c.expect.new.tokens.symbols h.1 (sym c.sees.ensures ∙ c.if-sees.false) h.0 c.in_ok-place.place c.digits.new.tokens.symbols c.in_ok-place.ensures g.0 n)
+    (λ n. element_found c.args.tokens.now.symbols c.expect.new.tokens.symbols h.1 (sym c.sees.ensures ∙ c.if-sees.false) h.0 c.in_ok-place.place c.digits.new.tokens.symbols c.in_ok-place.ensures.gives g.0 n)
