@@ -19,11 +19,11 @@ use Rattle.sql_grammar.specs.Queries.{Written, query}
 use Rattle.sql_grammar.specs.QueryReaders.{is_agg, read_whole_query, read_query}
 use Rattle.sql_grammar.specs.Faults.{names_source, query_of, misplaced, code_of, longest, place_of, IsCut, IsWritten, Spells, FaultOf, is_too_long, is_unfit, is_refused, is_other_name}
 use Rattle.sql_grammar.proofs.QueryReads.{reads-query, said}
-use Rattle.select_sql.specs.declared.stop.Stop.{Stop}
-use Rattle.select_sql.specs.declared.stop.Stop.TheVariants as stop
-use Rattle.select_sql.specs.Parsing.{fault_of}
+use Rattle.sql_leaves.specs.declared.stop.Stop.{Stop}
+use Rattle.sql_leaves.specs.declared.stop.Stop.TheVariants as stop
+use Rattle.sql_leaves.specs.Parsing.{fault_of}
 use Rattle.select_sql.specs.Written.{at_end, NoneIsEnd, refused_code, stop_code, error_by, error_of}
-use Rattle.select_sql.proofs.ClassSteps.{agreeing}
+use Rattle.sql_leaves.proofs.ClassSteps.{agreeing}
 use Rattle.select_sql.proofs.EndSteps.{end_in_sight}
 
 pub place_anywhere : (n m : ℕ) (ts : List Symbol) → at_end ts ≡ false → place_or n ts ≡ place_or m ts

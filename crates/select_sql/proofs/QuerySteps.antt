@@ -31,10 +31,12 @@ use Rattle.sql_grammar.proofs.Sights.{or_more}
 use Rattle.sql_grammar.proofs.ExpressionReads.{seen_over}
 use Rattle.sql_grammar.proofs.ItemReads.{later_first, reads-row, reads-later_total}
 use Rattle.sql_grammar.proofs.SourceReads.{seen_over_step, reads-step}
-use Rattle.select_sql.specs.Parsing.{agg_node, read_aggregate_told, read_count_told, read_in_brackets}
-use Rattle.select_sql.proofs.PrimarySteps.{not_true, not_false, enclosed_is}
-use Rattle.select_sql.proofs.ListSteps.{list_left}
-use Rattle.select_sql.proofs.CountedSteps.{first_begins, some_left}
+use Rattle.sql_expressions.specs.Parsing.{read_in_brackets}
+use Rattle.select_sql.specs.Parsing.{agg_node, read_aggregate_told, read_count_told}
+use Rattle.sql_expressions.proofs.PrimarySteps.{not_true, not_false, enclosed_is}
+use Rattle.sql_expressions.proofs.ListSteps.{list_left}
+use Rattle.sql_expressions.proofs.ItemSteps.{over_first, item_over, item_failed, item_found}
+use Rattle.sql_leaves.proofs.CountedSteps.{first_begins, some_left}
 
 pub row_less : CountedShrinks (read_counted_past (of k.Comma) (read_item (λ s. over_class true (class s)) read_row))
 row_less =
@@ -209,15 +211,6 @@ unfolding read_any_agg read_aggregate_told
 any_avg n [] p q r t = refl
 any_avg n (s ∷ ts) p q r t = any_last n s ts (agg_form (class s)) refl p q r t
 
--- a token with a fault of its own
-pub over_first : {A : Type 0} (over : Class → Option Fault) → over k.NoToken ≡ None → (ts : List Symbol) (j : Option Fault) → j ≡ over (first_class ts) → read_terminal {A = A} (λ s. told (over (class s))) ts ≡ failed j ts
-over_first over none [] j h = rw (h, none) refl
-over_first over none (s ∷ ts) j h = by_fault (over (class s)) j h
-  where
-    by_fault : {A : Type 0} (o j : Option Fault) → j ≡ o → read_symbol {A = A} (told o) s ts ≡ failed j (s ∷ ts)
-    by_fault None j h = rw h refl
-    by_fault (Some f) j h = rw h refl
-
 -- ---- steps of the source
 
 pub step_less : CountedShrinks (read_item (λ s. over_step (class s)) read_step)
@@ -270,18 +263,6 @@ module _ (n : ℕ) (ts : List Symbol) (comma : starts (of k.Comma) ts ≡ true) 
 pub agg_failed : (n : ℕ) (ts : List Symbol) (j : Option Fault) (rest : List Symbol) → is_agg (first_class ts) ≡ false → j ≡ mixed_class (first_class ts) → rest ≡ ts → read_later_agg n ts ≡ failed j rest
 unfolding read_later_agg
 agg_failed n ts j rest h g l = rw (sym (first_begins is_agg refl ts) ∙ h, l, over_first mixed_class refl ts j g) refl
-
--- ---- an item where there may be no more
-
-module _ {A : Type 0} (over : Class → Option Fault) (none : over k.NoToken ≡ None) (read : Reader A) (n : ℕ) (ts : List Symbol) where
-  pub item_over : (c : ℕ) → c ≡ 0 → (j : Option Fault) → j ≡ over (first_class ts) → read_item (λ s. over (class s)) read (c, n) ts ≡ failed j ts
-  item_over c z j h = rw z (over_first over none ts j h)
-
-  pub item_failed : (c : ℕ) → (c ≡ 0 → ⊥) → (j : Option Fault) (left : List Symbol) → read n ts ≡ failed j left → read_item (λ s. over (class s)) read (c, n) ts ≡ failed j left
-  item_failed c z j left h = rw (some_left c z, h) refl
-
-  pub item_found : (c : ℕ) → (c ≡ 0 → ⊥) → (a : A) (m : ℕ) (left : List Symbol) → read n ts ≡ found (a, m) left → read_item (λ s. over (class s)) read (c, n) ts ≡ found (a, (c - 1, m)) left
-  item_found c z a m left h = rw (some_left c z, h) refl
 
 over_is : (c : Class) → is_step c ≡ true → over_step c ≡ Some too_many
 over_is k.Dot h = refl

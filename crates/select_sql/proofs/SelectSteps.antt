@@ -15,11 +15,11 @@ use Rattle.sql_grammar.specs.Expressions.{word}
 use Rattle.sql_grammar.specs.Queries.{Selected, everything, everything_of, selected, Written, written_of}
 use Rattle.sql_grammar.specs.Readers.{begins, is_step}
 use Rattle.sql_grammar.specs.QueryReaders.{read_items, read_all_of_name, read_list, read_named_step, read_element_rest, read_all_rest, read_steps, read_own_steps, read_bracket_steps, read_source_steps, begins_alias, read_name, read_alias, read_source, read_filter, read_limit, read_ending, read_behind_list, read_whole_query}
-use Rattle.select_sql.specs.Parsing.{name_at}
+use Rattle.sql_leaves.specs.Parsing.{name_at}
 use Rattle.select_sql.specs.Written.{IsFailed, AllOfName}
-use Rattle.select_sql.proofs.CountedSteps.{first_begins}
-use Rattle.select_sql.proofs.PrimarySteps.{not_false}
-use Rattle.select_sql.proofs.WordSteps.{word_made}
+use Rattle.sql_leaves.proofs.CountedSteps.{first_begins}
+use Rattle.sql_expressions.proofs.PrimarySteps.{not_false}
+use Rattle.sql_leaves.proofs.WordSteps.{word_made}
 
 -- ---- `name . *`
 

@@ -14,12 +14,12 @@ use Rattle.sql_grammar.specs.declared.error.SqlCode.{SqlCode}
 use Rattle.sql_grammar.specs.declared.error.SqlCode.TheVariants as code
 use Rattle.sql_grammar.specs.declared.error.ParseError.{ParseError}
 use Rattle.sql_grammar.specs.declared.error.ParseError.TheVariants as error
-use Rattle.select_sql.specs.declared.stop.Stop.{Stop}
-use Rattle.select_sql.specs.declared.stop.Stop.TheVariants as stop
+use Rattle.sql_leaves.specs.declared.stop.Stop.{Stop}
+use Rattle.sql_leaves.specs.declared.stop.Stop.TheVariants as stop
 use Rattle.select_sql.specs.declared.query.Listed.{Listed}
 use Rattle.select_sql.specs.declared.query.Listed.TheVariants as list
 use Rattle.select_sql.specs.declared.query.Parts.{Parts}
-use Rattle.select_sql.specs.Parsing.{fault_of}
+use Rattle.sql_leaves.specs.Parsing.{fault_of}
 
 abbrev pub listed : Listed → Selected
 listed list.Everything = everything

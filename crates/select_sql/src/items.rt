@@ -5,12 +5,12 @@ ghost use Rattle.grammar_rules.specs.CountedReaders.{read_counted_past, read_ite
 ghost use Rattle.sql_grammar.specs.Marks.{of, class};
 ghost use Rattle.sql_grammar.specs.Expressions.{over_class};
 ghost use Rattle.sql_grammar.specs.QueryReaders.{read_name, read_as_name, read_row, read_rows};
-ghost use Rattle.select_sql.specs.Parsing.{GivesCounted};
+ghost use Rattle.sql_leaves.specs.Parsing.{GivesCounted};
 
-use crate::expression::expression;
-use crate::predicates::over_member;
-use crate::stop::Stop;
-use crate::tokens::{expect, name, sees};
+use sql_expressions::expression;
+use sql_expressions::over_member;
+use sql_leaves::stop::Stop;
+use sql_leaves::tokens::{expect, name, sees};
 use sql_grammar::{Item, Name};
 use sql_tokens::{Class, Tokens};
 use sqlite_items::Items;

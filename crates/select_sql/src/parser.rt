@@ -5,11 +5,11 @@ ghost use Rattle.sql_grammar.specs.declared.error.SqlError.{SqlError as SqlError
 ghost use Rattle.sql_grammar.specs.declared.error.ParseError.TheVariants as error;
 ghost use Rattle.sql_grammar.specs.Faults.{Spells, FaultOf, IsCut, IsWritten, is_same_name, names_source, selection_of, query_of, place_of};
 ghost use Rattle.sql_grammar.specs.QueryReaders.{read_whole_query};
-ghost use Rattle.select_sql.specs.declared.stop.Stop.TheVariants as stop;
+ghost use Rattle.sql_leaves.specs.declared.stop.Stop.TheVariants as stop;
 ghost use Rattle.select_sql.specs.Written.{GivesAs, NoneIsEnd, at_end, listed, written, refused_code, stop_code, error_of};
 
 use crate::query::{Listed, Parts, whole};
-use crate::stop::Stop;
+use sql_leaves::stop::Stop;
 use crate::totals::is_agg;
 use sql_grammar::{Name, ParseError, Query, Selection, SqlCode, SqlError};
 use sql_tokens::{Class, Tokens};

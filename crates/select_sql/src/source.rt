@@ -2,11 +2,12 @@
 ghost use Rattle.std.specs.Prelude.{◌≡◌, ℕ, ◌++◌, ◌∷◌};
 ghost use Rattle.grammar_rules.specs.CountedReaders.{read_given};
 ghost use Rattle.sql_grammar.specs.QueryReaders.{read_named_step, read_element_rest, read_all_rest, read_step, read_steps, read_bracket_steps, read_source_steps, read_alias};
-ghost use Rattle.select_sql.specs.Parsing.{GivesCounted, read_bracket_step};
+ghost use Rattle.sql_leaves.specs.Parsing.{GivesCounted};
+ghost use Rattle.select_sql.specs.Parsing.{read_bracket_step};
 
-use crate::path::{MAX_INDEX, is_step};
-use crate::stop::Stop;
-use crate::tokens::{digits, expect, is_name, name, sees};
+use sql_leaves::path::{MAX_INDEX, is_step};
+use sql_leaves::stop::Stop;
+use sql_leaves::tokens::{digits, expect, is_name, name, sees};
 use sql_grammar::{Name, Step};
 use sql_tokens::{Class, Tokens};
 use sqlite_items::Items;
@@ -36,7 +37,7 @@ fn element_rest(tokens: &mut Tokens<'_>) -> Result<Step, Stop>
 }
 
 /// `*` and `]`.
-#[tactic(auto, unfolding(sql_grammar::specs::QueryReaders::read_all_rest), using(crate::proofs::WordSteps::word_refused, crate::proofs::WordSteps::word_made))]
+#[tactic(auto, unfolding(sql_grammar::specs::QueryReaders::read_all_rest), using(sql_leaves::proofs::WordSteps::word_refused, sql_leaves::proofs::WordSteps::word_made))]
 fn all_rest(tokens: &mut Tokens<'_>) -> Result<Step, Stop>
     ensures { (n : ℕ) → GivesCounted (read_all_rest n tokens.old.symbols) result n tokens.new.symbols }
 {

@@ -5,13 +5,15 @@ ghost use Rattle.grammar_rules.specs.CountedReaders.{read_counted_past};
 ghost use Rattle.sql_grammar.specs.Marks.{of};
 ghost use Rattle.sql_grammar.specs.Queries.{agg_form, mixed_class, over_total};
 ghost use Rattle.sql_grammar.specs.QueryReaders.{is_agg, read_counted, read_any_agg, read_later_agg, read_total, read_first_total, read_later_total, read_totals};
-ghost use Rattle.select_sql.specs.Parsing.{GivesCounted, IsOver, is_token, agg_node, read_aggregate_told, read_count_told};
+ghost use Rattle.sql_leaves.specs.Parsing.{GivesCounted, is_token};
+ghost use Rattle.sql_expressions.specs.Parsing.{IsOver};
+ghost use Rattle.select_sql.specs.Parsing.{agg_node, read_aggregate_told, read_count_told};
 
-use crate::classes::{begins_expression, is_unknown_call};
-use crate::expression::expression;
+use sql_leaves::classes::{begins_expression, is_unknown_call};
+use sql_expressions::expression;
 use crate::items::as_name;
-use crate::stop::Stop;
-use crate::tokens::{expect, open, sees};
+use sql_leaves::stop::Stop;
+use sql_leaves::tokens::{expect, open, sees};
 use sql_grammar::{Agg, Expr, Total};
 use sql_tokens::{Class, Tokens};
 use sqlite_items::{Boxed, Items};
@@ -51,7 +53,7 @@ fn agg_node(class: Class, value: Expr) -> Agg
 }
 
 /// An aggregate of an expression.
-#[tactic(auto, unfolding(crate::specs::Parsing::read_aggregate_told, crate::specs::Parsing::read_in_brackets))]
+#[tactic(auto, unfolding(crate::specs::Parsing::read_aggregate_told, sql_expressions::specs::Parsing::read_in_brackets))]
 fn aggregate(
     alloc: Global,
     tokens: &mut Tokens<'_>,
@@ -82,7 +84,7 @@ fn counted(alloc: Global, tokens: &mut Tokens<'_>, primaries: &mut u32) -> Resul
 }
 
 /// COUNT.
-#[tactic(auto, unfolding(crate::specs::Parsing::read_count_told, crate::specs::Parsing::read_in_brackets))]
+#[tactic(auto, unfolding(crate::specs::Parsing::read_count_told, sql_expressions::specs::Parsing::read_in_brackets))]
 fn count(alloc: Global, tokens: &mut Tokens<'_>, primaries: &mut u32) -> Result<Agg, Stop>
     ensures { GivesCounted (read_count_told primaries.old tokens.old.symbols) result primaries.new tokens.new.symbols }
 {

@@ -3,8 +3,8 @@ use Rattle.std.proofs.Common.{true, refl, sym, ◌∙◌}
 use Rattle.std.proofs.lemmas.Result.{err_from_is_err_and}
 use Rattle.sql_grammar.specs.Expressions.{over_class}
 use Rattle.sql_grammar.specs.QueryReaders.{read_row}
-use Rattle.select_sql.specs.Parsing.{fault_of}
-use Rattle.select_sql.proofs.QuerySteps.{item_over, item_failed, item_found}
+use Rattle.sql_leaves.specs.Parsing.{fault_of}
+use Rattle.sql_expressions.proofs.ItemSteps.{item_over, item_failed, item_found}
 use Rattle.select_sql.proofs.items.next_row.Goals as goal
 
 pub returns-then-left-eq0 : goal.returns-then-left-eq0

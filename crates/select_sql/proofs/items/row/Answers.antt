@@ -1,6 +1,6 @@
 -- A value and its name.
 use Rattle.std.proofs.lemmas.Result.{err_from_is_err_and}
-use Rattle.select_sql.specs.Parsing.{fault_of}
+use Rattle.sql_leaves.specs.Parsing.{fault_of}
 use Rattle.select_sql.proofs.QuerySteps.{row_unnamed, row_named}
 use Rattle.select_sql.proofs.items.row.Goals as goal
 

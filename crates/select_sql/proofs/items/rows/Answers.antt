@@ -7,8 +7,8 @@ use Rattle.sql_grammar.specs.Expressions.{over_class}
 use Rattle.grammar_rules.specs.CountedReaders.{read_counted_past, read_item}
 use Rattle.sql_grammar.specs.QueryReaders.{read_row, read_rows, read_totals, read_first_total, read_later_total}
 use Rattle.select_sql.proofs.QuerySteps.{row_less, total_less}
-use Rattle.select_sql.specs.Parsing.{fault_of}
-use Rattle.select_sql.proofs.ListSteps.{limited_begin, limited_none, limited_on, limited_stop, limited_fail}
+use Rattle.sql_leaves.specs.Parsing.{fault_of}
+use Rattle.sql_expressions.proofs.ListSteps.{limited_begin, limited_none, limited_on, limited_stop, limited_fail}
 use Rattle.select_sql.proofs.items.rows.Goals as goal
 
 pub returns-in_err-first : goal.returns-in_err-first

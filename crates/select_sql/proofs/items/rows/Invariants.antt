@@ -6,7 +6,7 @@ use Rattle.sql_grammar.specs.Expressions.{over_class}
 use Rattle.grammar_rules.specs.CountedReaders.{read_counted_past, read_item}
 use Rattle.sql_grammar.specs.QueryReaders.{read_row, read_rows, read_totals, read_first_total, read_later_total}
 use Rattle.select_sql.proofs.QuerySteps.{row_less, total_less}
-use Rattle.select_sql.proofs.ListSteps.{limited_left}
+use Rattle.sql_expressions.proofs.ListSteps.{limited_left}
 use Rattle.select_sql.proofs.items.rows.Given as goal
 
 abbrev pub invariant-members : goal.invariant-members

@@ -3,8 +3,8 @@ use Rattle.std.proofs.Common.{◌≡◌, ◌≢◌, sym, ◌∙◌}
 use Rattle.sql_tokens.specs.Cutting.{symbols_of}
 use Rattle.grammar_rules.specs.Readers.{found, failed}
 use Rattle.sql_grammar.specs.QueryReaders.{read_whole_query}
-use Rattle.select_sql.specs.declared.stop.Stop.TheVariants as stop
-use Rattle.select_sql.specs.Parsing.{fault_of}
+use Rattle.sql_leaves.specs.declared.stop.Stop.TheVariants as stop
+use Rattle.sql_leaves.specs.Parsing.{fault_of}
 use Rattle.select_sql.specs.Written.{written}
 use Rattle.select_sql.proofs.AnswerSteps.{found_written, found_end, trailed, stopped_end, stopped_fault}
 use Rattle.select_sql.proofs.parser.answer.Goals as goal

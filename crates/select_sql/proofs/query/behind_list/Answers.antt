@@ -1,7 +1,7 @@
 -- FROM, the source, WHERE and the end.
 use Rattle.std.proofs.Common.{sym, ap, ◌∙◌}
 use Rattle.std.proofs.lemmas.Result.{err_from_is_err_and}
-use Rattle.select_sql.specs.Parsing.{fault_of}
+use Rattle.sql_leaves.specs.Parsing.{fault_of}
 use Rattle.select_sql.specs.Written.{listed}
 use Rattle.select_sql.proofs.SelectSteps.{behind_none, behind_sourceless, behind_steps, behind_alias, behind_filter, behind_ending, behind_found}
 use Rattle.select_sql.proofs.query.behind_list.Goals as goal

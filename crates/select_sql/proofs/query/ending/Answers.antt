@@ -1,7 +1,7 @@
 -- The limit, and a semicolon or none.
 use Rattle.std.proofs.Common.{sym, ap, ◌∙◌}
 use Rattle.std.proofs.lemmas.Result.{err_from_is_err_and}
-use Rattle.select_sql.specs.Parsing.{fault_of}
+use Rattle.sql_leaves.specs.Parsing.{fault_of}
 use Rattle.select_sql.proofs.SelectSteps.{ending_failed, ending_closed, ending_open}
 use Rattle.select_sql.proofs.query.ending.Goals as goal
 

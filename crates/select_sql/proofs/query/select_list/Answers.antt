@@ -1,7 +1,7 @@
 -- All, all of a name, or items.
 use Rattle.std.proofs.Common.{sym, ap, drop, Some, None, ◌∙◌}
 use Rattle.std.proofs.lemmas.Result.{err_from_is_err_and}
-use Rattle.select_sql.specs.Parsing.{fault_of}
+use Rattle.sql_leaves.specs.Parsing.{fault_of}
 use Rattle.select_sql.specs.Written.{AllOfName}
 use Rattle.select_sql.proofs.SelectSteps.{list_everything, list_named, list_items, all_moved}
 use Rattle.select_sql.proofs.query.select_list.Goals as goal

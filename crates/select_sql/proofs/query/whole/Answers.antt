@@ -1,7 +1,7 @@
 -- SELECT, what is selected, and what follows.
 use Rattle.std.proofs.Common.{sym, ap, ◌∙◌}
 use Rattle.std.proofs.lemmas.Result.{err_from_is_err_and}
-use Rattle.select_sql.specs.Parsing.{fault_of}
+use Rattle.sql_leaves.specs.Parsing.{fault_of}
 use Rattle.select_sql.specs.Written.{listed}
 use Rattle.select_sql.proofs.SelectSteps.{whole_none, whole_listless, whole_listed}
 use Rattle.select_sql.proofs.query.whole.Goals as goal

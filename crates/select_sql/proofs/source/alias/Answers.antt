@@ -1,7 +1,7 @@
 -- A name with AS or without it, or nothing.
 use Rattle.std.proofs.Common.{sym, ap, ◌∙◌}
 use Rattle.std.proofs.lemmas.Result.{err_from_is_err_and}
-use Rattle.select_sql.specs.Parsing.{fault_of}
+use Rattle.sql_leaves.specs.Parsing.{fault_of}
 use Rattle.select_sql.proofs.SelectSteps.{alias_failed, alias_found, alias_none}
 use Rattle.select_sql.proofs.source.alias.Goals as goal
 

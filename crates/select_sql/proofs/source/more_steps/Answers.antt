@@ -1,7 +1,7 @@
 -- The loop over the steps follows the reader.
 use Rattle.std.proofs.Common.{refl, sym, ◌∙◌}
 use Rattle.std.proofs.lemmas.Result.{err_from_is_err_and}
-use Rattle.select_sql.specs.Parsing.{fault_of}
+use Rattle.sql_leaves.specs.Parsing.{fault_of}
 use Rattle.select_sql.proofs.QuerySteps.{steps_stop, steps_over, steps_fail, steps_on, step_shorter}
 use Rattle.select_sql.proofs.source.more_steps.Goals as goal
 

@@ -1,7 +1,7 @@
 -- A value and its name.
 use Rattle.std.proofs.lemmas.Result.{err_from_is_err_and}
 use Rattle.sql_grammar.specs.QueryReaders.{read_any_agg}
-use Rattle.select_sql.specs.Parsing.{fault_of}
+use Rattle.sql_leaves.specs.Parsing.{fault_of}
 use Rattle.select_sql.proofs.QuerySteps.{total_unnamed, total_named}
 use Rattle.select_sql.proofs.totals.first_total.Goals as goal
 

@@ -1,6 +1,6 @@
 -- An aggregate, or why none begins there.
 use Rattle.std.proofs.Common.{sym, refl, ◌∙◌}
-use Rattle.select_sql.specs.Parsing.{fault_of}
+use Rattle.sql_leaves.specs.Parsing.{fault_of}
 use Rattle.select_sql.proofs.QuerySteps.{agg_failed}
 use Rattle.select_sql.proofs.totals.later_agg.Goals as goal
 

@@ -5,8 +5,8 @@ use Rattle.sql_tokens.specs.declared.class.Class.TheVariants as k
 use Rattle.sql_grammar.specs.Marks.{of}
 use Rattle.grammar_rules.specs.CountedReaders.{read_counted_past}
 use Rattle.sql_grammar.specs.QueryReaders.{read_totals, read_first_total, read_later_total}
-use Rattle.select_sql.specs.Parsing.{fault_of}
-use Rattle.select_sql.proofs.ListSteps.{limited_begin, limited_none, limited_on, limited_stop, limited_fail}
+use Rattle.sql_leaves.specs.Parsing.{fault_of}
+use Rattle.sql_expressions.proofs.ListSteps.{limited_begin, limited_none, limited_on, limited_stop, limited_fail}
 use Rattle.select_sql.proofs.QuerySteps.{total_less, first_of_many, first_of_none}
 use Rattle.select_sql.proofs.totals.totals.Goals as goal
 

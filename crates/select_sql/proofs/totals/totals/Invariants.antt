@@ -4,7 +4,7 @@ use Rattle.sql_tokens.specs.declared.class.Class.TheVariants as k
 use Rattle.sql_grammar.specs.Marks.{of}
 use Rattle.grammar_rules.specs.CountedReaders.{read_counted_past}
 use Rattle.sql_grammar.specs.QueryReaders.{read_totals, read_later_total}
-use Rattle.select_sql.proofs.ListSteps.{limited_left}
+use Rattle.sql_expressions.proofs.ListSteps.{limited_left}
 use Rattle.select_sql.proofs.totals.totals.Given as goal
 
 abbrev pub invariant-members : goal.invariant-members
