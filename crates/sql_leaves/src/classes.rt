@@ -30,7 +30,7 @@ pub fn is_number(class: Class) -> bool
 }
 
 /// DECIMAL or NUMERIC.
-pub fn is_decimal(class: Class) -> bool
+pub(crate) fn is_decimal(class: Class) -> bool
     ensures { result ≡ is_decimal class }
 {
     match class {

@@ -1,4 +1,5 @@
-//! Primaries of one token.
+//! Primaries of one token. `primaries` is how many may still come; where none may, a token that would be one is a
+//! `Stop::TooMany`.
 ghost use Rattle.std.specs.Prelude.{◌≡◌, true};
 ghost use Rattle.sql_tokens.specs.Classes.{same_class};
 ghost use Rattle.sql_tokens.specs.declared.class.Class.TheVariants as k;
@@ -15,11 +16,7 @@ use sql_tokens::{Class, Tokens};
 use std::alloc::Global;
 
 /// Passes a token of this class, which counts as a primary.
-pub fn counted(
-    tokens: &mut Tokens<'_>,
-    primaries: &mut u32,
-    class: Class,
-) -> Result<(), Stop>
+pub fn counted(tokens: &mut Tokens<'_>, primaries: &mut u32, class: Class) -> Result<(), Stop>
     requires { is_token class ≡ true }
     ensures { GivesCounted (read_counted_token class primaries.old tokens.old.symbols) result primaries.new tokens.new.symbols }
 {
@@ -34,12 +31,8 @@ pub fn counted(
     Ok(())
 }
 
-/// A text.
-pub fn text(
-    alloc: Global,
-    tokens: &mut Tokens<'_>,
-    primaries: &mut u32,
-) -> Result<Expr, Stop>
+/// Passes a text, which counts as a primary.
+pub fn text(alloc: Global, tokens: &mut Tokens<'_>, primaries: &mut u32) -> Result<Expr, Stop>
     ensures { GivesCounted (read_literal (same_class k.Text) (λ s. e.Text (text_in s.token)) primaries.old tokens.old.symbols) result primaries.new tokens.new.symbols }
 {
     if !sees(tokens, Class::Text) {
@@ -54,7 +47,7 @@ pub fn text(
     Ok(Expr::Text(found))
 }
 
-/// A number.
+/// Passes a number without an exponent, which counts as a primary.
 pub fn number(tokens: &mut Tokens<'_>, primaries: &mut u32) -> Result<Expr, Stop>
     ensures { GivesCounted (read_literal is_number (λ s. e.Number (number_in s.token)) primaries.old tokens.old.symbols) result primaries.new tokens.new.symbols }
 {
@@ -70,7 +63,8 @@ pub fn number(tokens: &mut Tokens<'_>, primaries: &mut u32) -> Result<Expr, Stop
     Ok(Expr::Number(found))
 }
 
-/// Passes a `(` or CASE, which counts as a primary, where there is room for one.
+/// Passes a token of this class, a `(` or CASE, which counts as a primary. Where there is no room for one more it answers
+/// `Stop::TooDeep`, ahead of `Stop::TooMany`.
 #[tactic(auto, unfolding(crate::specs::Parsing::read_counted_open), using(crate::proofs::OpenSteps::counted_open_refused, crate::proofs::OpenSteps::counted_open_deep, crate::proofs::OpenSteps::counted_open_over, crate::proofs::OpenSteps::counted_open_taken))]
 pub fn counted_open(
     tokens: &mut Tokens<'_>,

@@ -11,15 +11,18 @@ use sql_tokens::{Class, Tokens};
 use sqlite_items::Boxed;
 use std::alloc::Global;
 
-/// The parser of the expressions between brackets, and how many brackets may still be open in one another.
+/// The parser of the expressions between brackets, and how many brackets and CASE may still be opened in one another from here.
+///
+/// It lets the parsers of all forms of an expression stand outside the cycle that an expression makes with its brackets.
 #[derive(Drop)]
 pub struct Nest<F> {
     pub alloc: Global,
+    /// 0: the parser between brackets refuses each token.
     pub depth: u32,
     pub expression: F,
 }
 
-/// An expression between brackets.
+/// An expression between brackets. It passes no bracket.
 pub fn inside<F: Fn(&mut Tokens<'_>, &mut u32) -> Result<Boxed<Expr>, Stop>>(
     nest: &Nest<F>,
     tokens: &mut Tokens<'_>,

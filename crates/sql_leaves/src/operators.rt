@@ -11,7 +11,7 @@ use sql_tokens::{Class, Tokens};
 use text_view::Side;
 
 /// A comparison.
-pub fn compare_op(class: Class) -> Option<CompareOp>
+pub(crate) fn compare_op(class: Class) -> Option<CompareOp>
     ensures { result ≡ compare_op class }
 {
     match class {
@@ -38,7 +38,7 @@ pub fn comparison(tokens: &mut Tokens<'_>) -> Result<CompareOp, Stop>
 }
 
 /// `+` or `-`.
-pub fn sum_op(class: Class) -> Option<SumOp>
+pub(crate) fn sum_op(class: Class) -> Option<SumOp>
     ensures { result ≡ sum_op class }
 {
     match class {
@@ -61,7 +61,7 @@ pub fn sum_sign(tokens: &mut Tokens<'_>) -> Result<SumOp, Stop>
 }
 
 /// `*`, `/` or `%`.
-pub fn prod_op(class: Class) -> Option<ProdOp>
+pub(crate) fn prod_op(class: Class) -> Option<ProdOp>
     ensures { result ≡ prod_op class }
 {
     match class {
@@ -85,7 +85,7 @@ pub fn prod_sign(tokens: &mut Tokens<'_>) -> Result<ProdOp, Stop>
 }
 
 /// LEADING, TRAILING or BOTH.
-pub fn trim_side(class: Class) -> Option<Side>
+pub(crate) fn trim_side(class: Class) -> Option<Side>
     ensures { result ≡ trim_side class }
 {
     match class {
@@ -109,7 +109,7 @@ pub fn side(tokens: &mut Tokens<'_>) -> Result<Side, Stop>
 }
 
 /// A part of DATE_ADD.
-pub fn date_part_of(class: Class) -> Option<DatePart>
+pub(crate) fn date_part_of(class: Class) -> Option<DatePart>
     ensures { result ≡ date_part class }
 {
     match class {
@@ -136,7 +136,7 @@ pub fn date_part(tokens: &mut Tokens<'_>) -> Result<DatePart, Stop>
 }
 
 /// A part of EXTRACT.
-pub fn stamp_part_of(class: Class) -> Option<DatePart>
+pub(crate) fn stamp_part_of(class: Class) -> Option<DatePart>
     ensures { result ≡ stamp_part class }
 {
     match class {

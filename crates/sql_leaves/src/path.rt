@@ -1,4 +1,4 @@
-//! Paths of an expression.
+//! Paths of an expression: a name, and steps behind it, each a member or an element.
 ghost use Rattle.std.specs.Prelude.{◌≡◌, ℕ};
 ghost use Rattle.sql_grammar.specs.Marks.{is_path_name};
 ghost use Rattle.sql_leaves.specs.Parsing.{GivesCounted};
@@ -11,7 +11,7 @@ use sql_tokens::{Class, Tokens};
 use sqlite_items::Items;
 use std::alloc::Global;
 
-/// The greatest index of an element.
+/// The greatest index of an element, and the greatest LIMIT: the greatest value within 63 bits.
 pub const MAX_INDEX: u64 = 9_223_372_036_854_775_807;
 
 /// Whether a step of a path begins here.
@@ -81,12 +81,8 @@ fn first_name(alloc: Global, tokens: &mut Tokens<'_>, primaries: &mut u32) -> Re
     Ok(found)
 }
 
-/// A path.
-pub fn path(
-    alloc: Global,
-    tokens: &mut Tokens<'_>,
-    primaries: &mut u32,
-) -> Result<Expr, Stop>
+/// Passes a path, which counts as one primary.
+pub fn path(alloc: Global, tokens: &mut Tokens<'_>, primaries: &mut u32) -> Result<Expr, Stop>
     ensures { GivesCounted (read_path primaries.old tokens.old.symbols) result primaries.new tokens.new.symbols }
 {
     let first = first_name(alloc, tokens, primaries)?;

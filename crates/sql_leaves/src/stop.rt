@@ -6,14 +6,21 @@ use std::alloc::AllocError;
 pub enum Stop {
     /// The token is none that may stand there.
     Refused,
+    /// A name before `(` that is no function's.
     UnknownFunction,
+    /// An aggregate beside values, or a value beside aggregates.
     AggregateMixed,
+    /// A word that names no type, or a number with an exponent.
     UnsupportedType,
+    /// An escape that isn't one character, or that doesn't fit its pattern.
     BadEscape,
     /// A number that is out of its place's range.
     WrongNumber,
+    /// A bracket or CASE too many that is open in others.
     TooDeep,
+    /// A primary, a member of a list or a step too many.
     TooMany,
+    /// Memory was refused. Nothing is said of the text then.
     Memory,
 }
 

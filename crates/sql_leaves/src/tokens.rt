@@ -1,4 +1,5 @@
-//! Single tokens of a query: names, texts, numbers and marks.
+//! Single tokens of a query: names, texts, digits and marks. Each call that passes a token leaves the cursor where it stood, or
+//! before the token that stops it, where it answers a stop.
 ghost use Rattle.std.specs.Prelude.{◌≡◌, ◌≤◌, true, false, IfOk};
 ghost use Rattle.grammar_rules.specs.Readers.{starts, read_terminal};
 ghost use Rattle.sql_grammar.specs.Marks.{of, is_name, name, text, whole_of, digits_within};
@@ -19,7 +20,7 @@ pub fn sees(tokens: &Tokens<'_>, class: Class) -> bool
     tokens.sees(class)
 }
 
-/// Passes a token of this class.
+/// Passes a token of this class, or answers `Stop::Refused` where none is in front.
 pub fn expect(tokens: &mut Tokens<'_>, class: Class) -> Result<(), Stop>
     requires { is_token class ≡ true }
     ensures { Expects class tokens.old.symbols result tokens.new.symbols }
@@ -31,7 +32,7 @@ pub fn expect(tokens: &mut Tokens<'_>, class: Class) -> Result<(), Stop>
     Ok(())
 }
 
-/// Passes a `(`, where there is room for one.
+/// Passes a `(`. Where there is no room for one more bracket it answers `Stop::TooDeep`, and `Stop::Refused` where no `(` is in front.
 #[tactic(auto, unfolding(crate::specs::Parsing::read_open), using(crate::proofs::OpenSteps::open_refused, crate::proofs::OpenSteps::open_deep, crate::proofs::OpenSteps::open_taken))]
 pub fn open(tokens: &mut Tokens<'_>, room: bool) -> Result<(), Stop>
     ensures { Gives (read_open room tokens.old.symbols) result tokens.new.symbols }
@@ -47,7 +48,7 @@ pub fn open(tokens: &mut Tokens<'_>, room: bool) -> Result<(), Stop>
 }
 
 /// Whether the class is one of these, which stand together.
-pub fn is_between(class: Class, first: Class, last: Class) -> bool
+pub(crate) fn is_between(class: Class, first: Class, last: Class) -> bool
     ensures { result ≡ between first last class }
 {
     first.code() <= class.code() && class.code() <= last.code()
@@ -62,7 +63,8 @@ pub fn is_name(class: Class) -> bool
         || is_between(class, Class::CoalesceCalled, Class::ToTimestampCalled)
 }
 
-/// The name in front.
+/// The name in front: a word as it is written, or a quoted name with each doubled quote as one. Where no name stands there, it is
+/// empty.
 pub fn name_at(alloc: Global, tokens: &Tokens<'_>) -> Result<Name, AllocError>
     ensures { IfOk result (λ name. name ≡ name_at tokens.now.symbols) }
 {
@@ -79,7 +81,7 @@ pub fn name_at(alloc: Global, tokens: &Tokens<'_>) -> Result<Name, AllocError>
     })
 }
 
-/// Passes a name.
+/// Passes a name, or answers `Stop::Refused` where none is in front.
 pub fn name(alloc: Global, tokens: &mut Tokens<'_>) -> Result<Name, Stop>
     ensures { Gives (read_terminal name tokens.old.symbols) result tokens.new.symbols }
 {
@@ -91,7 +93,7 @@ pub fn name(alloc: Global, tokens: &mut Tokens<'_>) -> Result<Name, Stop>
     Ok(found)
 }
 
-/// The text in front.
+/// The text in front, with each doubled quote as one. Where no text stands there, it is empty.
 pub fn text_at(alloc: Global, tokens: &Tokens<'_>) -> Result<TextBuf, AllocError>
     ensures { IfOk result (λ text. text ≡ text_at tokens.now.symbols) }
 {
@@ -99,7 +101,7 @@ pub fn text_at(alloc: Global, tokens: &Tokens<'_>) -> Result<TextBuf, AllocError
     TextBuf::undoubled(alloc, raw, b'\'')
 }
 
-/// Passes a text.
+/// Passes a text, or answers `Stop::Refused` where none is in front.
 pub fn text(alloc: Global, tokens: &mut Tokens<'_>) -> Result<TextBuf, Stop>
     ensures { Gives (read_terminal text tokens.old.symbols) result tokens.new.symbols }
 {
@@ -112,7 +114,7 @@ pub fn text(alloc: Global, tokens: &mut Tokens<'_>) -> Result<TextBuf, Stop>
 }
 
 /// The number in front.
-pub fn number_at(tokens: &Tokens<'_>) -> Num
+pub(crate) fn number_at(tokens: &Tokens<'_>) -> Num
     ensures { result ≡ number_at tokens.now.symbols }
 {
     match tokens.number() {
@@ -131,7 +133,8 @@ fn whole(number: Num) -> Option<u64>
     }
 }
 
-/// Passes digits whose value is within these bounds.
+/// Passes digits whose value is within these bounds, both among them. Digits with another value are a `Stop::WrongNumber`, any other
+/// token is a `Stop::Refused`.
 pub fn digits(tokens: &mut Tokens<'_>, least: u64, most: u64) -> Result<u64, Stop>
     ensures gives { Gives (read_terminal (digits_within least most) tokens.old.symbols) result tokens.new.symbols }
     ensures within { IfOk result (λ value. value ≤ most) }

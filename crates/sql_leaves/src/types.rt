@@ -96,7 +96,8 @@ fn decimal(tokens: &mut Tokens<'_>, room: bool) -> Result<CastTarget, Stop>
     }
 }
 
-/// Passes a type.
+/// Passes a type of CAST. A word that names no type is a `Stop::UnsupportedType`. `room` tells whether the bracket of a decimal's
+/// digits may still be opened.
 pub fn cast_target(tokens: &mut Tokens<'_>, room: bool) -> Result<CastTarget, Stop>
     ensures { Gives (read_type room tokens.old.symbols) result tokens.new.symbols }
 {
