@@ -7,11 +7,10 @@ ghost use Rattle.sql_grammar.specs.Expressions.{over_class};
 ghost use Rattle.sql_grammar.specs.QueryReaders.{read_name, read_as_name, read_row, read_rows};
 ghost use Rattle.sql_leaves.specs.Parsing.{GivesCounted};
 
-use sql_expressions::expression;
-use sql_expressions::over_member;
+use sql_expressions::{expression, over_member};
+use sql_grammar::{Item, Name};
 use sql_leaves::stop::Stop;
 use sql_leaves::tokens::{expect, name, sees};
-use sql_grammar::{Item, Name};
 use sql_tokens::{Class, Tokens};
 use sqlite_items::Items;
 use std::alloc::Global;

@@ -9,9 +9,9 @@ ghost use Rattle.sql_leaves.specs.declared.stop.Stop.TheVariants as stop;
 ghost use Rattle.select_sql.specs.Written.{GivesAs, NoneIsEnd, at_end, listed, written, refused_code, stop_code, error_of};
 
 use crate::query::{Listed, Parts, whole};
-use sql_leaves::stop::Stop;
 use crate::totals::is_agg;
 use sql_grammar::{Name, ParseError, Query, Selection, SqlCode, SqlError};
+use sql_leaves::stop::Stop;
 use sql_tokens::{Class, Tokens};
 use std::alloc::Global;
 

@@ -8,15 +8,15 @@ ghost use Rattle.sql_grammar.specs.QueryReaders.{read_items, read_list, read_fil
 ghost use Rattle.sql_leaves.specs.Parsing.{Gives, GivesCounted};
 ghost use Rattle.select_sql.specs.Written.{GivesAs, AllOfName, listed, written};
 
-use sql_leaves::classes::at_expression;
-use sql_expressions::expression;
 use crate::items::{MAX_DEPTH, rows};
-use sql_leaves::path::{MAX_INDEX, is_path_name};
 use crate::source::{alias, source_steps};
+use crate::totals::totals;
+use sql_expressions::expression;
+use sql_grammar::{Expr, Item, Name, Selection, Step, Total};
+use sql_leaves::classes::at_expression;
+use sql_leaves::path::{MAX_INDEX, is_path_name};
 use sql_leaves::stop::Stop;
 use sql_leaves::tokens::{digits, expect, name_at, sees};
-use crate::totals::totals;
-use sql_grammar::{Expr, Item, Name, Selection, Step, Total};
 use sql_tokens::{Class, Tokens};
 use sqlite_items::{Boxed, Items};
 use std::alloc::{AllocError, Global};

@@ -5,10 +5,10 @@ ghost use Rattle.sql_grammar.specs.QueryReaders.{read_named_step, read_element_r
 ghost use Rattle.sql_leaves.specs.Parsing.{GivesCounted};
 ghost use Rattle.select_sql.specs.Parsing.{read_bracket_step};
 
+use sql_grammar::{Name, Step};
 use sql_leaves::path::{MAX_INDEX, is_step};
 use sql_leaves::stop::Stop;
 use sql_leaves::tokens::{digits, expect, is_name, name, sees};
-use sql_grammar::{Name, Step};
 use sql_tokens::{Class, Tokens};
 use sqlite_items::Items;
 use std::alloc::Global;

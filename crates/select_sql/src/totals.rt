@@ -9,12 +9,12 @@ ghost use Rattle.sql_leaves.specs.Parsing.{GivesCounted, is_token};
 ghost use Rattle.sql_expressions.specs.Parsing.{IsOver};
 ghost use Rattle.select_sql.specs.Parsing.{agg_node, read_aggregate_told, read_count_told};
 
-use sql_leaves::classes::{begins_expression, is_unknown_call};
-use sql_expressions::expression;
 use crate::items::as_name;
+use sql_expressions::expression;
+use sql_grammar::{Agg, Expr, Total};
+use sql_leaves::classes::{begins_expression, is_unknown_call};
 use sql_leaves::stop::Stop;
 use sql_leaves::tokens::{expect, open, sees};
-use sql_grammar::{Agg, Expr, Total};
 use sql_tokens::{Class, Tokens};
 use sqlite_items::{Boxed, Items};
 use std::alloc::Global;

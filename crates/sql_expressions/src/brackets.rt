@@ -3,11 +3,11 @@ ghost use Rattle.std.specs.Prelude.{◌≡◌, ℕ, Err};
 ghost use Rattle.sql_grammar.specs.Readers.{read_expression};
 ghost use Rattle.sql_leaves.specs.Parsing.{GivesCounted, read_inside, read_too_deep};
 
-use sql_leaves::classes::begins_expression;
 use crate::logic::disjunction;
+use sql_grammar::Expr;
+use sql_leaves::classes::begins_expression;
 use sql_leaves::nest::Nest;
 use sql_leaves::stop::Stop;
-use sql_grammar::Expr;
 use sql_tokens::Tokens;
 use sqlite_items::Boxed;
 use std::alloc::Global;

@@ -8,6 +8,7 @@ ghost use Rattle.sql_grammar.specs.Readers.{begins, read_listed, read_cast_rest,
 ghost use Rattle.sql_leaves.specs.Parsing.{GivesCounted, Reads, read_inside, is_token};
 ghost use Rattle.sql_expressions.specs.Parsing.{read_arguments, read_function, simple_node};
 
+use sql_grammar::Expr;
 use sql_leaves::classes::{at_expression, is_for, is_side};
 use sql_leaves::literals::counted;
 use sql_leaves::nest::{Nest, behind, inside};
@@ -15,7 +16,6 @@ use sql_leaves::operators::{date_part, side, stamp_part};
 use sql_leaves::stop::Stop;
 use sql_leaves::tokens::{expect, open, sees};
 use sql_leaves::types::cast_target;
-use sql_grammar::Expr;
 use sql_tokens::{Class, Tokens};
 use sqlite_items::{Boxed, Items};
 use text_view::Side;

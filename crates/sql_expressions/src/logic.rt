@@ -7,11 +7,11 @@ ghost use Rattle.sql_grammar.specs.Marks.{of};
 ghost use Rattle.sql_grammar.specs.Readers.{read_negation, read_conjunction, read_disjunction};
 ghost use Rattle.sql_leaves.specs.Parsing.{GivesCounted, Reads, read_inside};
 
-use sql_leaves::nest::Nest;
 use crate::predicates::pred;
+use sql_grammar::Expr;
+use sql_leaves::nest::Nest;
 use sql_leaves::stop::Stop;
 use sql_leaves::tokens::{expect, sees};
-use sql_grammar::Expr;
 use sql_tokens::{Class, Tokens};
 use sqlite_items::{Boxed, Items};
 use std::alloc::{AllocError, Global};

@@ -9,15 +9,15 @@ ghost use Rattle.sql_grammar.specs.Readers.{read_comparison, read_between, read_
 ghost use Rattle.sql_leaves.specs.Parsing.{Gives, GivesCounted, Reads, read_inside};
 ghost use Rattle.sql_expressions.specs.Parsing.{IsOver, read_in_brackets, read_in_told, read_what, read_escape_told, only_one, tailed};
 
+use crate::sums::sum;
+use sql_grammar::Expr;
 use sql_leaves::classes::{
     begins_expression, begins_negatable, begins_tail, is_compare_op, is_unknown_call,
 };
 use sql_leaves::nest::{Nest, inside};
 use sql_leaves::operators::comparison;
 use sql_leaves::stop::Stop;
-use crate::sums::sum;
 use sql_leaves::tokens::{expect, open, sees, text, text_at};
-use sql_grammar::Expr;
 use sql_tokens::{Class, Tokens};
 use sqlite_items::{Boxed, Items};
 use std::alloc::Global;

@@ -7,14 +7,14 @@ ghost use Rattle.grammar_rules.specs.CountedReaders.{read_maybe};
 ghost use Rattle.sql_leaves.specs.Parsing.{GivesCounted, Reads, read_inside};
 ghost use Rattle.sql_expressions.specs.Parsing.{constant_node, is_constant, read_bracketed, read_case_told, read_simple};
 
-use sql_leaves::classes::{at_expression, is_function, is_number, is_unknown_call};
 use crate::functions::{function, maybe_behind};
+use sql_grammar::{Arm, Expr};
+use sql_leaves::classes::{at_expression, is_function, is_number, is_unknown_call};
 use sql_leaves::literals::{counted, counted_open, number, text};
 use sql_leaves::nest::{Nest, inside};
 use sql_leaves::path::{is_path_name, path};
 use sql_leaves::stop::Stop;
 use sql_leaves::tokens::{expect, sees};
-use sql_grammar::{Arm, Expr};
 use sql_tokens::{Class, Tokens};
 use sqlite_items::{Boxed, Items};
 

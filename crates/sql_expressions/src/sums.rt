@@ -5,13 +5,13 @@ ghost use Rattle.grammar_rules.specs.CountedReaders.{read_links};
 ghost use Rattle.sql_grammar.specs.Readers.{begins, is_prod_op, is_sum_op, read_unary, read_prod_part, read_prod, read_sum_part, read_sum};
 ghost use Rattle.sql_leaves.specs.Parsing.{GivesCounted, Reads, read_inside};
 
+use crate::primary::primary;
+use sql_grammar::{Expr, ProdPart, SumPart};
 use sql_leaves::classes::{is_prod_op, is_sum_op};
 use sql_leaves::nest::Nest;
 use sql_leaves::operators::{prod_sign, sum_sign};
-use crate::primary::primary;
 use sql_leaves::stop::Stop;
 use sql_leaves::tokens::sees;
-use sql_grammar::{Expr, ProdPart, SumPart};
 use sql_tokens::{Class, Tokens};
 use sqlite_items::{Boxed, Items};
 use std::alloc::{AllocError, Global};
