@@ -138,71 +138,66 @@ unfolding read_any_agg
 any_none n s ts h = rw h refl
 
 pub any_count : (n : ℕ) (ts : List Symbol) → starts (of k.CountCalled) ts ≡ true → read_any_agg n ts ≡ read_count_told n ts
+unfolding same_class
 any_count n [] q = absurd cc
 any_count n (s ∷ ts) q = any_by n s ts count_form (any_of k.CountCalled count_form counts s q) ∙ count_is n (s ∷ ts)
   where
     counts : list_all (λ d. not (same_class k.CountCalled d) || is_form count_form (agg_form d)) all_classes ≡ true
-    unfolding same_class
     counts = refl
 
 pub any_sum : (n : ℕ) (ts : List Symbol) → starts (of k.SumCalled) ts ≡ true → read_any_agg n ts ≡ read_aggregate_told k.SumCalled n ts
+unfolding same_class
 any_sum n [] q = absurd cc
 any_sum n (s ∷ ts) q = any_by n s ts sum_form (any_of k.SumCalled sum_form sums s q) ∙ aggregate_is n (s ∷ ts) k.SumCalled
   where
     sums : list_all (λ d. not (same_class k.SumCalled d) || is_form sum_form (agg_form d)) all_classes ≡ true
-    unfolding same_class
     sums = refl
 
 pub any_min : (n : ℕ) (ts : List Symbol) → starts (of k.MinCalled) ts ≡ true → read_any_agg n ts ≡ read_aggregate_told k.MinCalled n ts
+unfolding same_class
 any_min n [] q = absurd cc
 any_min n (s ∷ ts) q = any_by n s ts min_form (any_of k.MinCalled min_form mins s q) ∙ aggregate_is n (s ∷ ts) k.MinCalled
   where
     mins : list_all (λ d. not (same_class k.MinCalled d) || is_form min_form (agg_form d)) all_classes ≡ true
-    unfolding same_class
     mins = refl
 
 pub any_max : (n : ℕ) (ts : List Symbol) → starts (of k.MaxCalled) ts ≡ true → read_any_agg n ts ≡ read_aggregate_told k.MaxCalled n ts
+unfolding same_class
 any_max n [] q = absurd cc
 any_max n (s ∷ ts) q = any_by n s ts max_form (any_of k.MaxCalled max_form maxes s q) ∙ aggregate_is n (s ∷ ts) k.MaxCalled
   where
     maxes : list_all (λ d. not (same_class k.MaxCalled d) || is_form max_form (agg_form d)) all_classes ≡ true
-    unfolding same_class
     maxes = refl
 
 -- none of the first four, so the last one or none
 any_last : (n : ℕ) (s : Symbol) (ts : List Symbol) (o : Option AggForm) → agg_form (class s) ≡ o
     → same_class k.CountCalled (class s) ≡ false → same_class k.SumCalled (class s) ≡ false → same_class k.MinCalled (class s) ≡ false → same_class k.MaxCalled (class s) ≡ false
     → read_any_agg n (s ∷ ts) ≡ read_aggregate_told k.AvgCalled n (s ∷ ts)
+unfolding same_class read_aggregate_told
 any_last n s ts None h p q r t = any_none n s ts h ∙ sym (told_none (same_class k.AvgCalled (class s)) refl)
   where
     avgs : list_all (λ d. not (same_class k.AvgCalled d) || is_form avg_form (agg_form d)) all_classes ≡ true
-    unfolding same_class
     avgs = refl
 
     told_none : (b : Bool) → same_class k.AvgCalled (class s) ≡ b → read_aggregate_told k.AvgCalled n (s ∷ ts) ≡ failed None (s ∷ ts)
-    unfolding read_aggregate_told
     told_none true e = absurd (let o : None ≡ Some avg_form = sym h ∙ any_of k.AvgCalled avg_form avgs s e in cc)
     told_none false e = rw e refl
 any_last n s ts (Some avg_form) h p q r t = any_by n s ts avg_form h ∙ aggregate_is n (s ∷ ts) k.AvgCalled
 any_last n s ts (Some count_form) h p q r t = absurd (not_here k.CountCalled count_form all (class s) h p)
   where
     all : list_all (λ d. not (is_form count_form (agg_form d)) || same_class k.CountCalled d) all_classes ≡ true
-    unfolding same_class
     all = refl
 any_last n s ts (Some sum_form) h p q r t = absurd (not_here k.SumCalled sum_form all (class s) h q)
   where
     all : list_all (λ d. not (is_form sum_form (agg_form d)) || same_class k.SumCalled d) all_classes ≡ true
-    unfolding same_class
     all = refl
 any_last n s ts (Some min_form) h p q r t = absurd (not_here k.MinCalled min_form all (class s) h r)
   where
     all : list_all (λ d. not (is_form min_form (agg_form d)) || same_class k.MinCalled d) all_classes ≡ true
-    unfolding same_class
     all = refl
 any_last n s ts (Some max_form) h p q r t = absurd (not_here k.MaxCalled max_form all (class s) h t)
   where
     all : list_all (λ d. not (is_form max_form (agg_form d)) || same_class k.MaxCalled d) all_classes ≡ true
-    unfolding same_class
     all = refl
 
 pub any_avg : (n : ℕ) (ts : List Symbol) → starts (of k.CountCalled) ts ≡ false → starts (of k.SumCalled) ts ≡ false → starts (of k.MinCalled) ts ≡ false → starts (of k.MaxCalled) ts ≡ false
