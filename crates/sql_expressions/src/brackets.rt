@@ -39,7 +39,11 @@ fn between_brackets(
     expression(alloc, tokens, primaries, depth - 1)
 }
 
-/// An expression.
+/// Passes the expression in front, as the grammar's reader of expressions reads it.
+///
+/// `primaries` is how many primaries may still come, and is less by those that came. `depth` is how many brackets and CASE may
+/// still be opened in one another. Where no expression is read, the stop tells why, and the cursor is left before the token at
+/// which it stopped.
 #[cycle(expression)]
 pub fn expression(
     alloc: Global,

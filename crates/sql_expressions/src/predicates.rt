@@ -78,7 +78,8 @@ pub(crate) fn between<F: Fn(&mut Tokens<'_>, &mut u32) -> Result<Boxed<Expr>, St
     )?)
 }
 
-/// Why a token of this class can't begin one more member.
+/// Why a token of this class can't begin one more member of a list that is full: the fault that it has by itself, else
+/// `Stop::TooMany` where a member could begin so, else `Stop::Refused`. `room` tells whether a bracket may still be opened.
 pub fn over_member(class: Class, room: bool) -> Stop
     ensures { IsOver (over_class room class) result }
 {
