@@ -1,5 +1,5 @@
 -- Sets of classes that the parser tests by their places.
-use Rattle.std.proofs.Common.{◌≡◌, ◌||◌, ◌&&◌, not, Bool, true, false, refl, if◌then◌else◌}
+use Rattle.std.proofs.Common.{◌≡◌, ◌||◌, Bool, true, false, refl, if◌then◌else◌}
 use Rattle.std.specs.List.{list_all}
 use Rattle.sql_tokens.specs.declared.class.Class.{Class}
 use Rattle.sql_tokens.specs.declared.class.Class.TheVariants as k

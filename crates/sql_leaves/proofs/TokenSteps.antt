@@ -8,7 +8,7 @@ use Rattle.sql_tokens.specs.Cutting.{Symbol, first_class}
 use Rattle.sql_tokens.proofs.ClassLaws.{every}
 use Rattle.grammar_rules.specs.Readers.{found, failed, starts, read_terminal}
 use Rattle.grammar_rules.proofs.Classes.{agree}
-use Rattle.sql_grammar.specs.Marks.{Fault, class, of, is_name, told_by, one_told}
+use Rattle.sql_grammar.specs.Marks.{of, is_name, one_told}
 use Rattle.sql_leaves.specs.Parsing.{is_token, between}
 use Rattle.sql_grammar.proofs.ExpressionReads.{same_truth}
 

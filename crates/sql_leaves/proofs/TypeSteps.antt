@@ -1,18 +1,15 @@
 -- Types, as the parser reads them.
-use Rattle.std.proofs.Common.{◌≡◌, ℕ, Bool, true, false, List, [], ◌∷◌, drop, Some, None, Option, refl, sym, ap, ◌∙◌}
+use Rattle.std.proofs.Common.{◌≡◌, ℕ, Bool, true, false, List, [], ◌∷◌, drop, Some, None, Option, refl, ◌∙◌}
 use Rattle.sql_tokens.specs.declared.class.Class.{Class}
 use Rattle.sql_tokens.specs.declared.class.Class.TheVariants as k
-use Rattle.sql_tokens.specs.Classes.{same_class}
 use Rattle.sql_tokens.specs.Cutting.{Symbol, first_class}
-use Rattle.sql_grammar.specs.declared.tree.Expr.{Expr}
 use Rattle.sql_grammar.specs.declared.tree.CastTarget.{CastTarget}
 use Rattle.sql_grammar.specs.declared.tree.CastTarget.TheVariants as target
 use Rattle.grammar_rules.specs.Rules.{Verdict, takes, faults, refuses}
-use Rattle.grammar_rules.specs.Readers.{Outcome, found, failed, and_then, read_made, read_terminal, read_symbol, read_optional, read_before, chosen, is_seen, starts}
-use Rattle.grammar_rules.specs.CountedReaders.{read_plain, read_maybe, read_counted_past}
-use Rattle.sql_grammar.specs.Marks.{Fault, unsupported_type, class, of, is_decimal, simple_type, one_told, precision, scale, digits_within}
-use Rattle.sql_grammar.specs.Expressions.{Room, Tail, word, opening, decimal_target, pred_node, is_what}
-use Rattle.sql_grammar.specs.Readers.{Reader, read_is, read_otherwise, read_type, read_decimal, read_decimal_digits}
+use Rattle.grammar_rules.specs.Readers.{Outcome, found, failed, and_then, read_made, read_terminal, read_symbol, chosen, is_seen, starts}
+use Rattle.sql_grammar.specs.Marks.{Fault, unsupported_type, class, of, is_decimal, simple_type, digits_within}
+use Rattle.sql_grammar.specs.Expressions.{opening, decimal_target}
+use Rattle.sql_grammar.specs.Readers.{read_type, read_decimal, read_decimal_digits}
 use Rattle.sql_leaves.specs.Parsing.{read_open, read_scale, read_decimal_told, taken, is_faulty}
 
 -- the bracket that closes

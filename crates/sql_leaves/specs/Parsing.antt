@@ -18,7 +18,7 @@ use Rattle.sql_grammar.specs.declared.tree.CastTarget.TheVariants as target
 use Rattle.sql_grammar.specs.Expressions.{word, opening, decimal_target}
 use Rattle.sql_grammar.specs.declared.tree.Expr.{Expr}
 use Rattle.sql_grammar.specs.Readers.{Reader, begins, read_expression}
-use Rattle.sql_grammar.specs.Marks.{Fault, unknown_function, aggregate_mixed, unsupported_type, bad_escape, wrong_number, too_deep, too_many, of, name_by, or_nothing, number_or_zero, begins_expression, digits_within, class}
+use Rattle.sql_grammar.specs.Marks.{Fault, unknown_function, aggregate_mixed, unsupported_type, bad_escape, wrong_number, too_deep, too_many, of, name_by, or_nothing, number_or_zero, begins_expression, digits_within}
 
 -- the fault that a stop tells
 abbrev pub fault_of : Stop → Option Fault
