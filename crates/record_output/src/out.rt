@@ -1,0 +1,145 @@
+//! The writer of output records.
+ghost use Rattle.std.specs.Prelude.{◌≡◌};
+
+use crate::parts::{close, closing_len, has_part, open, push_part};
+use crate::spelled::{kind_of, push_squeezed};
+use json_text::{JsonNode, Kind};
+use select_ports::Limits;
+use select_request::Output;
+use sql_value::{Value, ValueFault};
+use std::alloc::{AllocError, Global};
+use std::marker::Model;
+use text_view::{Buf, Text};
+
+/// Bytes beside the record limit: a brace that opens a record under a limit of none, a brace that closes it, and a delimiter of two.
+const SLACK: usize = 4;
+
+/// Why a value can't be written.
+#[derive(Clone, Copy, Debug, PartialEq, Eq)]
+pub enum OutFault {
+    /// The value can't be read.
+    Value(ValueFault),
+    /// The record would be longer than the limit.
+    OverMaxRecordSize,
+}
+
+/// Writes one record after the other in a reply's format. All memory is taken when it is made.
+///
+/// `begin` begins a record, `field` adds a field, or `whole` makes the record of a JSON value, and `end` lends its bytes.
+#[derive(Drop)]
+pub struct Out {
+    output: Output,
+    longest: usize,
+    some: bool,
+    len: usize,
+    buffer: Buf,
+    scratch: Buf,
+}
+
+impl Model for Out {
+    ghost use Rattle.std.specs.Prelude.{◌≡◌, ◌+◌, ◌≤◌, length, take};
+    ghost use Rattle.record_output.specs.Writing.{Writing};
+
+    ghost Value = { Writing };
+
+    ghost view = { λ o. record {
+      output = o.output;
+      longest = o.longest;
+      begun = take o.len o.buffer.bytes;
+      some = o.some;
+    } };
+
+    ghost invariant = { λ o. (o.longest ≤ 16777216) × (o.len ≤ o.longest + 1) × (o.len ≤ length o.buffer.bytes)
+        × (o.buffer.room ≡ o.longest + 4) × (o.scratch.room ≡ o.longest + 4) };
+}
+
+impl Out {
+    ghost use Rattle.std.specs.Prelude.{◌≡◌, ◌++◌, ◌∷◌, [], ◌≤◌, ◌<◌, List, map, length, true, IfOk, IsOk, OnOk, OnErr, Ok, Err, ◌↔◌};
+    ghost use Rattle.std.specs.Borrow.{sem};
+    ghost use Rattle.std.specs.Io.BufRead.{Rests};
+    ghost use Rattle.json_text.specs.Grammar.{Json};
+    ghost use Rattle.json_text.specs.Nodes.{Spells};
+    ghost use Rattle.record_output.specs.Records.{Field, opening, record_text, whole_text, values_of, node_field, delimiter_of, delimiter_bytes};
+    ghost use Rattle.record_output.specs.Writing.{Writing, closed, anew, with_field, verdict, Holds};
+    ghost use Rattle.record_output.specs.contracts.out.Out.{the_row};
+
+    /// Takes twice the record limit and eight bytes, all the memory that it ever holds. A record has begun.
+    pub fn make(alloc: Global, output: &Output, limits: Limits) -> Result<Out, AllocError>
+        requires { limits.longest ≤ 16777216 }
+        ensures { IfOk result (λ made. made ≡ record { output = output.now; longest = limits.longest; begun = opening output.now; some = false }) }
+    {
+        let room = limits.longest + SLACK;
+        let mut buffer = Buf::make(alloc, room)?;
+        let scratch = Buf::make(alloc, room)?;
+        open(output, &mut buffer);
+        let len = buffer.bytes().len();
+        Ok(Out {
+            output: *output,
+            longest: limits.longest,
+            some: false,
+            len,
+            buffer,
+            scratch,
+        })
+    }
+
+    /// Begins a record.
+    #[inline]
+    pub fn begin(&mut self)
+        ensures value { self.new ≡ anew self.old }
+        ensures holds { Holds self.new [] }
+    {
+        open(&self.output, &mut self.buffer);
+        self.len = self.buffer.bytes().len();
+        self.some = false;
+    }
+
+    /// Adds a field. A value that can't be read is its fault, and a record that would be longer than the limit is
+    /// OverMaxRecordSize; a fault leaves the record as it was. In CSV the name isn't looked at.
+    #[inline]
+    pub fn field(&mut self, name: &Text<'_>, value: &Value<'_>) -> Result<(), OutFault>
+        ensures verdict { result ≡ verdict self.old (record { name = name.now; value = value.now }) }
+        ensures ok { OnOk result (self.new ≡ with_field self.old (record { name = name.now; value = value.now })) }
+        ensures fault { OnErr result (self.new ≡ self.old) }
+
+        // The record of a list of fields becomes that of one field more.
+        ensures holds { (fields : List Field) → Holds self.old fields
+            → OnOk result (Holds self.new (fields ++ record { name = name.now; value = value.now } ∷ [])) }
+    {
+        if let Value::Bad(fault) = value {
+            return Err(OutFault::Value(*fault));
+        }
+        self.buffer.truncate(self.len);
+        match push_part(
+            &self.output,
+            self.some,
+            name,
+            value,
+            &mut self.scratch,
+            &mut self.buffer,
+        ) {
+            Ok(()) => {}
+            Err(_) => return Err(OutFault::OverMaxRecordSize),
+        }
+        let len = self.buffer.bytes().len();
+        if len + closing_len(&self.output) > self.longest {
+            return Err(OutFault::OverMaxRecordSize);
+        }
+        self.len = len;
+        self.some = self.some || has_part(&self.output, name, value);
+        Ok(())
+    }
+
+    /// The record with its delimiter. It stays as it was, so that further fields may follow.
+    #[inline]
+    pub fn end(&mut self) -> &[u8]
+        ensures* after { sem 𝓛 (Rests the_row self.entry (λ new. new ≡ self.old)) }
+        ensures bytes { result.now ≡ closed self.old ++ delimiter_bytes (delimiter_of self.old.output) }
+        ensures holds { (fields : List Field) → Holds self.old fields
+            → result.now ≡ record_text self.old.output fields ++ delimiter_bytes (delimiter_of self.old.output) }
+    {
+        self.buffer.truncate(self.len);
+        close(&self.output, &mut self.buffer);
+        self.buffer.bytes()
+    }
+}
