@@ -2,12 +2,17 @@
 -- in a valid request are ASCII characters.
 use Rattle.std.specs.Prelude.{ℕ, Bool, ◌||◌, ◌==◌, List, [], ◌∷◌, ◌++◌, if◌then◌else◌}
 use Rattle.std.specs.List.{list_any, flat_map}
-use Rattle.select_request.specs.Values.{holds}
 use Rattle.select_request.specs.declared.request.CsvOutput.{CsvOutput}
+use Rattle.select_request.specs.declared.request.Delimiter.{Delimiter}
+use Rattle.select_request.specs.declared.request.Delimiter.TheVariants.{One, Two}
+
+abbrev pub is_delimiter_byte : Delimiter → ℕ → Bool
+is_delimiter_byte (One a) c = c == a
+is_delimiter_byte (Two a b) c = c == a || c == b
 
 -- the field delimiter, the quote, or a byte of the record delimiter
 abbrev pub is_guarded : CsvOutput → ℕ → Bool
-is_guarded csv c = c == csv.field || c == csv.quote || holds csv.delimiter c
+is_guarded csv c = c == csv.field || c == csv.quote || is_delimiter_byte csv.delimiter c
 
 -- a field that holds one of these stands in quotes, and where it is asked for each field does
 unfoldable pub is_quoted : CsvOutput → List ℕ → Bool

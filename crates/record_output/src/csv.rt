@@ -3,6 +3,7 @@ ghost use Rattle.std.specs.Prelude.{◌≡◌, ◌<◌, ◌++◌, ◌∷◌, [],
 ghost use Rattle.record_output.specs.Appending.{Appends};
 ghost use Rattle.record_output.specs.CsvFields.{is_quoted, escaped_text, escaped, within_quotes, csv_field};
 
+use crate::appending::push;
 use memchr::{memchr, memchr2, memchr3};
 use select_request::{CsvOutput, Delimiter};
 use text_view::{Buf, Full};
@@ -16,7 +17,7 @@ pub(crate) fn push_field(csv: &CsvOutput, text: &[u8], out: &mut Buf) -> Result<
     if is_quoted(csv, text) {
         return push_quoted(csv, text, out);
     }
-    out.push(text)
+    push(text, out)
 }
 
 /// Whether the field of the text stands in quotes.
@@ -41,9 +42,9 @@ fn is_quoted(csv: &CsvOutput, text: &[u8]) -> bool
 fn push_quoted(csv: &CsvOutput, text: &[u8], out: &mut Buf) -> Result<(), Full>
     ensures { Appends result out.old out.new (within_quotes csv.now text.now) }
 {
-    out.push(&[csv.quote])?;
+    push(&[csv.quote], out)?;
     push_escaped(csv, text, out)?;
-    out.push(&[csv.quote])
+    push(&[csv.quote], out)
 }
 
 /// Appends the text with the escape before each quote and each escape, or some front of that.
@@ -55,7 +56,7 @@ fn push_escaped(csv: &CsvOutput, text: &[u8], out: &mut Buf) -> Result<(), Full>
         push_cut(csv, &cut, out)?;
         rest = cut.behind;
     }
-    out.push(rest)
+    push(rest, out)
 }
 
 /// The bytes before a byte that is escaped, that byte, and the bytes behind it.
@@ -82,6 +83,6 @@ fn cut_at_escaped<'r>(csv: &CsvOutput, text: &'r [u8]) -> Option<Cut<'r>>
 fn push_cut(csv: &CsvOutput, cut: &Cut<'_>, out: &mut Buf) -> Result<(), Full>
     ensures { Appends result out.old out.new (cut.now.front.now ++ csv.now.escape ∷ cut.now.byte ∷ []) }
 {
-    out.push(cut.front)?;
-    out.push(&[csv.escape, cut.byte])
+    push(cut.front, out)?;
+    push(&[csv.escape, cut.byte], out)
 }

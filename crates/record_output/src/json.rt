@@ -1,11 +1,12 @@
 //! A JSON string.
-ghost use Rattle.std.specs.Prelude.{◌≡◌, ◌<◌, ◌+◌, ◌≤◌, ◌++◌, [], ◌∷◌, length, take, drop, map, MatchOption, true};
+ghost use Rattle.std.specs.Prelude.{◌≡◌, ◌<◌, ◌+◌, ◌/◌, ◌%◌, ◌≤◌, ◌++◌, [], ◌∷◌, length, take, drop, map, MatchOption};
 ghost use Rattle.std.specs.List.{prefix_len};
 ghost use Rattle.std.specs.Simd.Lanes.{mask_l};
 ghost use Rattle.json_text.specs.Runs.{is_special, is_plain};
 ghost use Rattle.record_output.specs.Appending.{Appends};
 ghost use Rattle.record_output.specs.JsonStrings.{spelled_text, json_string, escape, hex_digit};
 
+use crate::appending::push;
 use std::simd::prelude::*;
 use text_view::{Buf, Full};
 
@@ -14,9 +15,9 @@ use text_view::{Buf, Full};
 pub(crate) fn push_string(text: &[u8], out: &mut Buf) -> Result<(), Full>
     ensures { Appends result out.old out.new (json_string text.now) }
 {
-    out.push(b"\"")?;
+    push(b"\"", out)?;
     push_inside(text, out)?;
-    out.push(b"\"")
+    push(b"\"", out)
 }
 
 /// Appends what stands between the quotation marks, or some front of it.
@@ -29,7 +30,7 @@ fn push_inside(text: &[u8], out: &mut Buf) -> Result<(), Full>
         push_cut(&cut, out)?;
         rest = cut.behind;
     }
-    out.push(rest)
+    push(rest, out)
 }
 
 /// The bytes before one that is escaped, that byte, and the bytes behind it.
@@ -43,7 +44,7 @@ struct Cut<'r> {
 #[inline]
 fn cut_at_special(text: &[u8]) -> Option<Cut<'_>>
     ensures { MatchOption result (spelled_text text.now ≡ text.now)
-        (λ cut. (length cut.behind.now < length text.now) × (is_special cut.byte ≡ true)
+        (λ cut. (length cut.behind.now < length text.now)
         × (spelled_text text.now ≡ (cut.front.now ++ escape cut.byte) ++ spelled_text cut.behind.now)) }
 {
     let at = plain_end(text);
@@ -58,36 +59,41 @@ fn cut_at_special(text: &[u8]) -> Option<Cut<'_>>
 }
 
 fn push_cut(cut: &Cut<'_>, out: &mut Buf) -> Result<(), Full>
-    requires { is_special cut.now.byte ≡ true }
     ensures { Appends result out.old out.new (cut.now.front.now ++ escape cut.now.byte) }
 {
-    out.push(cut.front)?;
+    push(cut.front, out)?;
     push_escape(cut.byte, out)
 }
 
 /// Appends the escape of a byte.
 #[inline(never)]
 fn push_escape(byte: u8, out: &mut Buf) -> Result<(), Full>
-    requires { is_special byte ≡ true }
     ensures { Appends result out.old out.new (escape byte) }
 {
     match byte {
-        b'"' => out.push(b"\\\""),
-        b'\\' => out.push(b"\\\\"),
-        8 => out.push(b"\\b"),
-        9 => out.push(b"\\t"),
-        10 => out.push(b"\\n"),
-        12 => out.push(b"\\f"),
-        13 => out.push(b"\\r"),
-        _ => out.push(&[
-            b'\\',
-            b'u',
-            b'0',
-            b'0',
-            hex_digit(byte / 16),
-            hex_digit(byte % 16),
-        ]),
+        b'"' => push(b"\\\"", out),
+        b'\\' => push(b"\\\\", out),
+        8 => push(b"\\b", out),
+        9 => push(b"\\t", out),
+        10 => push(b"\\n", out),
+        12 => push(b"\\f", out),
+        13 => push(b"\\r", out),
+        _ => push(&unicode_escape(byte), out),
     }
+}
+
+/// The escape of a control character by its code.
+fn unicode_escape(byte: u8) -> [u8; 6]
+    ensures { result ≡ 92 ∷ 117 ∷ 48 ∷ 48 ∷ hex_digit (byte / 16) ∷ hex_digit (byte % 16) ∷ [] }
+{
+    [
+        b'\\',
+        b'u',
+        b'0',
+        b'0',
+        hex_digit(byte / 16),
+        hex_digit(byte % 16),
+    ]
 }
 
 fn hex_digit(number: u8) -> u8

@@ -7,6 +7,7 @@ ghost use Rattle.record_output.specs.Values.{json_value};
 ghost use Rattle.record_output.specs.Records.{Field, json_member, parts_of, opening, separator, closing, delimiter_of, delimiter_bytes};
 ghost use Rattle.record_output.specs.Writing.{added, between, is_some};
 
+use crate::appending::{append, push};
 use crate::spelled::{push_csv_value, push_json_value, push_name};
 use select_request::{Delimiter, Output};
 use sql_value::Value;
@@ -33,7 +34,7 @@ pub(crate) fn push_part(
             push_csv_value(csv, value, scratch, out)
         }
         Output::Json(_) => match value {
-            Value::Missing => out.push(b""),
+            Value::Missing => push(b"", out),
             _ => {
                 push_separator(some, b',', out)?;
                 push_member(name, value, scratch, out)
@@ -62,9 +63,9 @@ fn push_separator(some: bool, byte: u8, out: &mut Buf) -> Result<(), Full>
     ensures { Appends result out.old out.new (if some then byte ∷ [] else []) }
 {
     if some {
-        out.push(&[byte])
+        push(&[byte], out)
     } else {
-        out.push(b"")
+        push(b"", out)
     }
 }
 
@@ -82,7 +83,7 @@ fn push_member(
     ensures room { scratch.new.room ≡ scratch.old.room }
 {
     push_name(name, scratch, out)?;
-    out.push(b":")?;
+    push(b":", out)?;
     push_json_value(value, scratch, out)
 }
 
@@ -122,18 +123,6 @@ fn end_record(delimiter: Delimiter, out: &mut Buf)
     match delimiter {
         Delimiter::One(byte) => append(&[byte], out),
         Delimiter::Two(first, second) => append(&[first, second], out),
-    }
-}
-
-/// Appends bytes for which there is room.
-#[inline]
-fn append(bytes: &[u8], out: &mut Buf)
-    requires { length out.old.bytes + length bytes.now ≤ out.old.room }
-    ensures { out.new ≡ record out.old { bytes = out.old.bytes ++ bytes.now } }
-{
-    match out.push(bytes) {
-        Ok(()) => {}
-        Err(_) => unreachable!(),
     }
 }
 

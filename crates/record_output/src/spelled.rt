@@ -15,6 +15,7 @@ ghost use Rattle.record_output.specs.CsvFields.{csv_field};
 ghost use Rattle.record_output.specs.JsonStrings.{json_string};
 ghost use Rattle.record_output.specs.Values.{csv_text, json_value, node_text, compact_text};
 
+use crate::appending::push;
 use crate::csv::push_field;
 use crate::json::push_string;
 use json_text::{JsonNode, Kind};
@@ -162,14 +163,14 @@ pub(crate) fn push_json_value(
 {
     match value {
         Value::Text(text) => push_json_text(text, scratch, out),
-        Value::Missing => out.push(b""),
-        Value::Null => out.push(b"null"),
-        Value::Bool(truth) => out.push(bool_bytes(*truth)),
+        Value::Missing => push(b"", out),
+        Value::Null => push(b"null", out),
+        Value::Bool(truth) => push(bool_bytes(*truth), out),
         Value::Int(int) => push_int(*int, out),
         Value::Dec(dec) => push_dec(dec, out),
         Value::Stamp(stamp) => push_json_stamp(stamp, out),
         Value::Node(node) => push_node(node, out),
-        Value::Bad(_) => out.push(b""),
+        Value::Bad(_) => push(b"", out),
     }
 }
 
@@ -178,7 +179,7 @@ fn push_int(int: i64, out: &mut Buf) -> Result<(), Full>
     ensures { Appends result out.old out.new (signed_decimal int) }
 {
     let mut buffer = itoa::Buffer::new();
-    out.push(buffer.format(int).as_bytes())
+    push(buffer.format(int).as_bytes(), out)
 }
 
 #[inline(never)]
@@ -186,7 +187,7 @@ fn push_dec(dec: &Dec, out: &mut Buf) -> Result<(), Full>
     ensures { Appends result out.old out.new (printed dec.now) }
 {
     let text = dec.print();
-    out.push(text.as_str().as_bytes())
+    push(text.as_str().as_bytes(), out)
 }
 
 #[inline(never)]
@@ -252,10 +253,10 @@ fn push_node(node: &JsonNode<'_>, out: &mut Buf) -> Result<(), Full>
     match kind_of(node) {
         Kind::Array => push_squeezed(node, out),
         Kind::Object => push_squeezed(node, out),
-        Kind::Null => out.push(node.token().as_bytes()),
-        Kind::Bool(_) => out.push(node.token().as_bytes()),
-        Kind::Number => out.push(node.token().as_bytes()),
-        Kind::Text => out.push(node.token().as_bytes()),
+        Kind::Null => push(node.token().as_bytes(), out),
+        Kind::Bool(_) => push(node.token().as_bytes(), out),
+        Kind::Number => push(node.token().as_bytes(), out),
+        Kind::Text => push(node.token().as_bytes(), out),
     }
 }
 
