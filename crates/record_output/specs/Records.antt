@@ -81,9 +81,13 @@ first_name = 95 ∷ 49 ∷ []
 abbrev pub node_field : Tree → Field
 node_field tree = record { name = first_name; value = Node (print tree []) }
 
--- in CSV an object's values in the order of its members, and another value alone
+-- the values of an object, in the order of its members
+abbrev pub values_in : Tree → List Tree
+values_in tree = map (λ m. m.value) (members_of tree)
+
+-- in CSV an object's values, and another value alone
 abbrev pub values_of : Tree → List Tree
-values_of (object m ms) = map (λ n. n.value) (members_of (object m ms))
+values_of (object m ms) = values_in (object m ms)
 values_of (empty_object blanks) = []
 values_of tree = tree ∷ []
 

@@ -6,7 +6,8 @@ use Rattle.sql_timestamp.specs.declared.fault.ValueFault.{ValueFault}
 use Rattle.record_output.specs.declared.out.OutFault.{OutFault}
 use Rattle.record_output.specs.declared.out.OutFault.TheVariants as fault
 use Rattle.record_output.specs.Values.{fault_of}
-use Rattle.record_output.specs.Records.{Field, parts_of, opening, separator, closing, joined, begun_text}
+use Rattle.record_output.specs.Records.{Field, parts_of, opening, separator, closing, joined, begun_text, whole_text}
+use Rattle.json_text.specs.Grammar.{Json}
 
 -- the settings, the record limit, the record's bytes without what closes it, and whether a part stands in it
 pub record Writing : Type 0 where
@@ -59,6 +60,15 @@ judged None within = within_limit within
 -- what adding a field answers: the fault of a value that can't be read, else whether the closed record is within the limit
 abbrev pub verdict : Writing → Field → Result (Unit {0}) OutFault
 verdict w field = judged (fault_of field.value) (is_within (with_field w field))
+
+-- the same of the record of a JSON value
+abbrev pub whole_verdict : Writing → Json → Result (Unit {0}) OutFault
+whole_verdict w tree = within_limit (nat_le (length (whole_text w.output tree)) w.longest)
+
+-- the settings are the same
+pub record HasSettings (old new : Writing) : Type 0 where
+  pub output : new.output ≡ old.output
+  pub longest : new.longest ≡ old.longest
 
 -- the record stands as the one of these fields does
 pub record Holds (w : Writing) (fields : List Field) : Type 0 where

@@ -54,13 +54,16 @@ impl Model for Out {
 }
 
 impl Out {
-    ghost use Rattle.std.specs.Prelude.{◌≡◌, ◌++◌, ◌∷◌, [], ◌≤◌, ◌<◌, List, map, length, true, IfOk, IsOk, OnOk, OnErr, Ok, Err, ◌↔◌};
+    ghost use Rattle.std.specs.Prelude.{◌≡◌, ◌++◌, ◌∷◌, [], ◌≤◌, ◌<◌, List, map, length, nat_le, true, IfOk, IsOk, OnOk, OnErr, Ok, Err, ◌↔◌};
     ghost use Rattle.std.specs.Borrow.{sem};
     ghost use Rattle.std.specs.Io.BufRead.{Rests};
     ghost use Rattle.json_text.specs.Grammar.{Json};
     ghost use Rattle.json_text.specs.Nodes.{Spells};
-    ghost use Rattle.record_output.specs.Records.{Field, opening, record_text, whole_text, values_of, node_field, delimiter_of, delimiter_bytes};
-    ghost use Rattle.record_output.specs.Writing.{Writing, closed, anew, with_field, verdict, Holds};
+    ghost use Rattle.json_text.specs.Nodes.{kind_at};
+    ghost use Rattle.json_text.specs.Skipped.{outside};
+    ghost use Rattle.json_text.specs.Compact.{squeezed};
+    ghost use Rattle.record_output.specs.Records.{Field, opening, closing, values_in, record_text, whole_text, values_of, node_field, delimiter_of, delimiter_bytes};
+    ghost use Rattle.record_output.specs.Writing.{Writing, closed, is_within, within_limit, whole_verdict, HasSettings, anew, with_field, verdict, Holds};
     ghost use Rattle.record_output.specs.contracts.out.Out.{the_row};
 
     /// Takes twice the record limit and eight bytes, all the memory that it ever holds. A record has begun.
@@ -127,6 +130,78 @@ impl Out {
         }
         self.len = len;
         self.some = self.some || has_part(&self.output, name, value);
+        Ok(())
+    }
+
+    /// Begins a record and makes it that of a JSON value, `*` in a query: in CSV the values of an object in the order of its
+    /// members, or another value alone; in JSON the object without the blanks between its tokens, or another value as the member
+    /// `_1`. After a fault no field stands in the record.
+    pub fn whole(&mut self, node: &JsonNode<'_>) -> Result<(), OutFault>
+        ensures verdict { (tree : Json) → Spells node.now tree → result ≡ whole_verdict self.old tree }
+        ensures ok { (tree : Json) → Spells node.now tree → OnOk result (closed self.new ≡ whole_text self.old.output tree) }
+        ensures settings { OnOk result (HasSettings self.old self.new) }
+        ensures fault { OnErr result (self.new ≡ anew self.old) }
+    {
+        self.begin();
+        match self.add_whole(node) {
+            Ok(()) => Ok(()),
+            Err(fault) => {
+                self.begin();
+                Err(fault)
+            }
+        }
+    }
+
+    fn add_whole(&mut self, node: &JsonNode<'_>) -> Result<(), OutFault>
+        requires { Holds self.old [] }
+        ensures verdict { (tree : Json) → Spells node.now tree → result ≡ whole_verdict self.old tree }
+        ensures ok { (tree : Json) → Spells node.now tree → OnOk result (closed self.new ≡ whole_text self.old.output tree) }
+        ensures settings { HasSettings self.old self.new }
+    {
+        match (kind_of(node), self.output) {
+            (Kind::Object, Output::Csv(_)) => self.add_values(node),
+            (Kind::Object, Output::Json(_)) => self.copy_object(node),
+            _ => self.field(&Text::plain("_1"), &Value::Node(node.again())),
+        }
+    }
+
+    /// Adds the values of an object.
+    fn add_values(&mut self, node: &JsonNode<'_>) -> Result<(), OutFault>
+        requires begun { Holds self.old [] }
+        ensures over { (tree : Json) → Spells node.now tree
+            → OnErr result (self.old.longest < length (record_text self.old.output (map node_field (values_in tree)))) }
+        ensures fault { OnErr result (result ≡ Err OutFault.OverMaxRecordSize) }
+        ensures ok { (tree : Json) → Spells node.now tree → OnOk result (Holds self.new (map node_field (values_in tree))) }
+        ensures within { OnOk result (is_within self.new ≡ true) }
+        ensures settings { HasSettings self.old self.new }
+    {
+        let mut walk = node.members();
+        'members: while let Some(member) = walk.next() {
+            self.field(&Text::plain("_1"), &Value::Node(member.value))?;
+        }
+        Ok(())
+    }
+
+    /// Makes the record the object without the blanks between its tokens.
+    fn copy_object(&mut self, node: &JsonNode<'_>) -> Result<(), OutFault>
+        requires object { kind_at node.now ≡ Kind.Object }
+        requires json { closing self.old.output ≡ 125 ∷ [] }
+        ensures verdict { result ≡ within_limit (nat_le (length (squeezed outside node.now)) self.old.longest) }
+        ensures ok { OnOk result (closed self.new ≡ squeezed outside node.now) }
+        ensures settings { HasSettings self.old self.new }
+    {
+        self.len = 0;
+        self.buffer.clear();
+        match push_squeezed(node, &mut self.buffer) {
+            Ok(()) => {}
+            Err(_) => return Err(OutFault::OverMaxRecordSize),
+        }
+        let len = self.buffer.bytes().len();
+        if len > self.longest {
+            return Err(OutFault::OverMaxRecordSize);
+        }
+        self.len = len - 1;
+        self.some = len > 2;
         Ok(())
     }
 
