@@ -1,15 +1,15 @@
 -- The bytes of an output record.
-use Rattle.std.specs.Prelude.{ℕ, Bool, true, false, List, [], ◌∷◌, ◌++◌, map}
+use Rattle.std.specs.Prelude.{ℕ, Bool, true, false, List, [], ◌∷◌, ◌++◌, map, if◌then◌else◌}
 use Rattle.std.specs.List.{flat_map}
-use Rattle.std.specs.Str.{encode_utf8_all}
+use Rattle.std.specs.Str.{chars, encode_utf8_all}
 use Rattle.select_request.specs.declared.request.Delimiter.{Delimiter}
 use Rattle.select_request.specs.declared.request.Delimiter.TheVariants.{One, Two}
 use Rattle.select_request.specs.declared.request.Output.{Output}
 use Rattle.select_request.specs.declared.request.Output.TheVariants.{Csv, Json}
 use Rattle.select_request.specs.declared.request.CsvOutput.{CsvOutput}
-use Rattle.json_text.specs.Grammar.{Json as Tree, null, truth, number, string, empty_array, array, empty_object, object, print}
+use Rattle.json_text.specs.Grammar.{Json as Tree, empty_object, object, print}
 use Rattle.json_text.specs.Compact.{compact}
-use Rattle.json_text.specs.Naming.{Named, members_of}
+use Rattle.json_text.specs.Naming.{members_of}
 use Rattle.sql_value.specs.declared.value.Value.{Value}
 use Rattle.sql_value.specs.declared.value.Value.TheVariants.{Missing, Node}
 use Rattle.record_output.specs.CsvFields.{csv_field}
@@ -73,31 +73,25 @@ delimiter_bytes (Two a b) = a ∷ b ∷ []
 
 -- ---- the record of a whole JSON value
 
--- the bytes _1
+-- the characters _1
 abbrev pub first_name : List ℕ
-first_name = 95 ∷ 49 ∷ []
+first_name = chars (95 ∷ 49 ∷ [])
 
 -- a JSON value as a field
 abbrev pub node_field : Tree → Field
 node_field tree = record { name = first_name; value = Node (print tree []) }
 
+abbrev pub is_object : Tree → Bool
+is_object (object m ms) = true
+is_object (empty_object blanks) = true
+is_object _ = false
+
 -- the values of an object, in the order of its members
 abbrev pub values_in : Tree → List Tree
 values_in tree = map (λ m. m.value) (members_of tree)
 
--- in CSV an object's values, and another value alone
-abbrev pub values_of : Tree → List Tree
-values_of (object m ms) = values_in (object m ms)
-values_of (empty_object blanks) = []
-values_of tree = tree ∷ []
-
--- in JSON an object without the blanks between its tokens; another value is the member _1
-abbrev pub whole_object : Delimiter → Tree → List ℕ
-whole_object delimiter (object m ms) = compact (object m ms)
-whole_object delimiter (empty_object blanks) = compact (empty_object blanks)
-whole_object delimiter tree = record_text (Json delimiter) (node_field tree ∷ [])
-
--- the record of a JSON value, without its delimiter
+-- the record of a JSON value, without its delimiter: in CSV an object's values, and another value alone; in JSON an object without
+-- the blanks between its tokens, and another value as the member _1
 abbrev pub whole_text : Output → Tree → List ℕ
-whole_text (Csv csv) tree = record_text (Csv csv) (map node_field (values_of tree))
-whole_text (Json delimiter) tree = whole_object delimiter tree
+whole_text (Csv csv) tree = record_text (Csv csv) (map node_field (if is_object tree then values_in tree else tree ∷ []))
+whole_text (Json delimiter) tree = if is_object tree then compact tree else record_text (Json delimiter) (node_field tree ∷ [])

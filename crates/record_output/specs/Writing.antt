@@ -34,15 +34,15 @@ abbrev pub added : Output → Bool → List (List ℕ) → List ℕ
 added output some [] = []
 added output some (part ∷ parts) = between output some ++ part
 
-abbrev pub is_some : List (List ℕ) → Bool
-is_some [] = false
-is_some (part ∷ parts) = true
+abbrev pub any_part : List (List ℕ) → Bool
+any_part [] = false
+any_part (part ∷ parts) = true
 
 -- the record with one field more
 abbrev pub with_field : Writing → Field → Writing
 with_field w field = record w {
   begun = w.begun ++ added w.output w.some (parts_of w.output field);
-  some = w.some || is_some (parts_of w.output field);
+  some = w.some || any_part (parts_of w.output field);
 }
 
 -- the closed record is within the limit
@@ -73,4 +73,4 @@ pub record HasSettings (old new : Writing) : Type 0 where
 -- the record stands as the one of these fields does
 pub record Holds (w : Writing) (fields : List Field) : Type 0 where
   pub begun : w.begun ≡ begun_text w.output fields
-  pub some : w.some ≡ is_some (flat_map (parts_of w.output) fields)
+  pub some : w.some ≡ any_part (flat_map (parts_of w.output) fields)

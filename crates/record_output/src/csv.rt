@@ -60,6 +60,7 @@ fn push_escaped(csv: &CsvOutput, text: &[u8], out: &mut Buf) -> Result<(), Full>
 }
 
 /// The bytes before a byte that is escaped, that byte, and the bytes behind it.
+#[derive(Clone, Copy)]
 struct Cut<'r> {
     front: &'r [u8],
     byte: u8,

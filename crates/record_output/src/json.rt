@@ -34,6 +34,7 @@ fn push_inside(text: &[u8], out: &mut Buf) -> Result<(), Full>
 }
 
 /// The bytes before one that is escaped, that byte, and the bytes behind it.
+#[derive(Clone, Copy)]
 struct Cut<'r> {
     front: &'r [u8],
     byte: u8,

@@ -1,8 +1,12 @@
 //! The writer of output records.
 ghost use Rattle.std.specs.Prelude.{◌≡◌};
+ghost use Rattle.json_text.specs.Grammar.{Json};
+ghost use Rattle.json_text.specs.Nodes.{Spells};
+ghost use Rattle.record_output.specs.Values.{fault_of};
+ghost use Rattle.record_output.specs.Records.{is_object};
 
 use crate::parts::{close, closing_len, has_part, open, push_part};
-use crate::spelled::{kind_of, push_squeezed};
+use crate::spelled::push_squeezed;
 use json_text::{JsonNode, Kind};
 use select_ports::Limits;
 use select_request::Output;
@@ -59,10 +63,9 @@ impl Out {
     ghost use Rattle.std.specs.Io.BufRead.{Rests};
     ghost use Rattle.json_text.specs.Grammar.{Json};
     ghost use Rattle.json_text.specs.Nodes.{Spells};
-    ghost use Rattle.json_text.specs.Nodes.{kind_at};
     ghost use Rattle.json_text.specs.Skipped.{outside};
     ghost use Rattle.json_text.specs.Compact.{squeezed};
-    ghost use Rattle.record_output.specs.Records.{Field, opening, closing, values_in, record_text, whole_text, values_of, node_field, delimiter_of, delimiter_bytes};
+    ghost use Rattle.record_output.specs.Records.{Field, opening, closing, values_in, is_object, record_text, whole_text, node_field, delimiter_of, delimiter_bytes};
     ghost use Rattle.record_output.specs.Writing.{Writing, closed, is_within, within_limit, whole_verdict, HasSettings, anew, with_field, verdict, Holds};
     ghost use Rattle.record_output.specs.contracts.out.Out.{the_row};
 
@@ -109,8 +112,8 @@ impl Out {
         ensures holds { (fields : List Field) → Holds self.old fields
             → OnOk result (Holds self.new (fields ++ record { name = name.now; value = value.now } ∷ [])) }
     {
-        if let Value::Bad(fault) = value {
-            return Err(OutFault::Value(*fault));
+        if let Some(fault) = fault_of(value) {
+            return Err(OutFault::Value(fault));
         }
         self.buffer.truncate(self.len);
         match push_part(
@@ -158,16 +161,19 @@ impl Out {
         ensures ok { (tree : Json) → Spells node.now tree → OnOk result (closed self.new ≡ whole_text self.old.output tree) }
         ensures settings { HasSettings self.old self.new }
     {
-        match (kind_of(node), self.output) {
-            (Kind::Object, Output::Csv(_)) => self.add_values(node),
-            (Kind::Object, Output::Json(_)) => self.copy_object(node),
-            _ => self.field(&Text::plain("_1"), &Value::Node(node.again())),
+        if !is_object(node) {
+            return self.field(&Text::plain("_1"), &Value::Node(node.again()));
+        }
+        match self.output {
+            Output::Csv(_) => self.add_values(node),
+            Output::Json(_) => self.copy_object(node),
         }
     }
 
     /// Adds the values of an object.
     fn add_values(&mut self, node: &JsonNode<'_>) -> Result<(), OutFault>
         requires begun { Holds self.old [] }
+        requires nothing { closed self.old ≡ [] }
         ensures over { (tree : Json) → Spells node.now tree
             → OnErr result (self.old.longest < length (record_text self.old.output (map node_field (values_in tree)))) }
         ensures fault { OnErr result (result ≡ Err OutFault.OverMaxRecordSize) }
@@ -184,12 +190,13 @@ impl Out {
 
     /// Makes the record the object without the blanks between its tokens.
     fn copy_object(&mut self, node: &JsonNode<'_>) -> Result<(), OutFault>
-        requires object { kind_at node.now ≡ Kind.Object }
+        requires object { (tree : Json) → Spells node.now tree → is_object tree ≡ true }
         requires json { closing self.old.output ≡ 125 ∷ [] }
         ensures verdict { result ≡ within_limit (nat_le (length (squeezed outside node.now)) self.old.longest) }
         ensures ok { OnOk result (closed self.new ≡ squeezed outside node.now) }
         ensures settings { HasSettings self.old self.new }
     {
+        let _token = node.token();
         self.len = 0;
         self.buffer.clear();
         match push_squeezed(node, &mut self.buffer) {
@@ -216,5 +223,25 @@ impl Out {
         self.buffer.truncate(self.len);
         close(&self.output, &mut self.buffer);
         self.buffer.bytes()
+    }
+}
+
+/// The fault of a value that can't be read.
+#[inline]
+fn fault_of(value: &Value<'_>) -> Option<ValueFault>
+    ensures { result ≡ fault_of value.now }
+{
+    match value {
+        Value::Bad(fault) => Some(*fault),
+        _ => None,
+    }
+}
+
+fn is_object(node: &JsonNode<'_>) -> bool
+    ensures { (tree : Json) → Spells node.now tree → result ≡ is_object tree }
+{
+    match node.kind() {
+        Kind::Object => true,
+        _ => false,
     }
 }

@@ -5,7 +5,7 @@ ghost use Rattle.record_output.specs.Appending.{Appends};
 ghost use Rattle.record_output.specs.JsonStrings.{json_string};
 ghost use Rattle.record_output.specs.Values.{json_value};
 ghost use Rattle.record_output.specs.Records.{Field, json_member, parts_of, opening, separator, closing, delimiter_of, delimiter_bytes};
-ghost use Rattle.record_output.specs.Writing.{added, between, is_some};
+ghost use Rattle.record_output.specs.Writing.{added, between, any_part};
 
 use crate::appending::{append, push};
 use crate::spelled::{push_csv_value, push_json_value, push_name};
@@ -46,7 +46,7 @@ pub(crate) fn push_part(
 /// Whether a field gives a part to the record.
 #[inline]
 pub(crate) fn has_part(output: &Output, name: &Text<'_>, value: &Value<'_>) -> bool
-    ensures { result ≡ is_some (parts_of output.now (record { name = name.now; value = value.now })) }
+    ensures { result ≡ any_part (parts_of output.now (record { name = name.now; value = value.now })) }
 {
     match output {
         Output::Csv(_) => true,
