@@ -14,11 +14,12 @@ use Rattle.sql_grammar.specs.declared.tree.Expr.{Expr}
 use Rattle.sql_grammar.specs.declared.tree.Name.{Name}
 use Rattle.sql_grammar.specs.declared.tree.Step.{Step}
 use Rattle.sql_grammar.specs.declared.tree.Query.{Query}
+use Rattle.sql_grammar.specs.declared.tree.Selection.{Selection}
 use Rattle.sql_grammar.specs.declared.tree.Selection.TheVariants as selection
 use Rattle.sql_grammar.specs.Marks.{Fault, of, digits}
 use Rattle.sql_grammar.specs.Expressions.{Counting, expression}
 use Rattle.sql_grammar.specs.Queries.{rows, totals, Selected, everything, everything_of, selected, items, all_of_name, selection_list, source, filter, ending, Written, written_of, whole_query, query}
-use Rattle.sql_grammar.specs.Faults.{is_own_name, source_name, selection_of, query_of, misplaced, IsCut, IsWritten, Spells, longest}
+use Rattle.sql_grammar.specs.Faults.{is_own_name, names_source, source_name, selection_of, query_of, misplaced, IsCut, IsWritten, Spells, longest}
 use Rattle.sql_printed.specs.Law.{PrintedSpells}
 use Rattle.sql_printed.specs.Shown.{shown}
 use Rattle.sql_printed.specs.Printed.{printed, selection_text, item_text, total_text, source_text, filter_text, limit_text}
@@ -183,3 +184,62 @@ whole_text w m text t =
       fit = ap first_unfit is ∙ c.fit;
       spelled = subst (λ l. query.Spells w l) (sym is) ((w, j), refl, v);
     }
+
+-- ---- queries
+
+abbrev query_with : Selection → (List Step × Option Name) × (Option Expr × Option ℕ) → Query
+query_with items q = record { items = items; alias = q.0.1; source = q.0.0; filter = q.1.0; limit = q.1.1 }
+
+-- what is written so is told again, with `*` for the source's name and `.*`, and stands for the same query
+record WrittenTold (w : Written) : Type 0 where
+  written : Written
+  left : ℕ
+  same : query_of written ≡ query_of w
+  own : names_source written ≡ true
+  told : Told (λ f. whole_query) 0 4096 left written (printed (query_of w))
+
+written_told : (w : Written) (ts : List Symbol) → AllGood ts → query.Spells w ts → WrittenTold w
+unfolding query printed
+written_told w ts g s =
+    let j = s.2 in
+    let good = good_right ts j.left j.right j.joined g in
+    let v = j.after in
+    let i = v.2 in
+    let x = selection_told 4096 i.value i.left (good_left j.right i.left i.right i.joined good) i.whole in
+    let q = i.after.0 in
+    let b = back_again i.value.1 q i.right (good_right j.right i.left i.right i.joined good) i.after.2 in
+    let front = selection_text (selection_of i.value.0) in
+    let two = told-both (λ f. selection_list) (λ f. back) 0 4096 i.value.1 q.1 x.written q.0 front (back_text q.0) (starts_back q.0) x.told b in
+    let made_of = told-given (λ f. both selection_list back) 0 written_as 4096 q.1 (x.written, q.0) (front ++ back_text q.0) two in
+    let all = told-past (λ f. given written_as (both selection_list back)) 0 4096 q.1 (written_as (x.written, q.0)) (front ++ back_text q.0) made_of (of k.Select) (codes "SELECT ") select_word in
+    let is : written_as (i.value.0, q.0) ≡ w = ap (λ y. written_as y.0) i.after.1 ∙ (ap (λ y. y.0) v.1 ∙ s.1) in
+    subst WrittenTold is (record {
+      written = written_as (x.written, q.0);
+      left = q.1;
+      same = ap (λ y. query_with y q.0) x.same;
+      own = x.own (source_name q.0.0.1);
+      told = all;
+    })
+
+value_spelled : (ts : List Symbol) (w : Written) (x : Answer Fault Written) → Answers query ts x → named misplaced ts x ≡ value w → query.Spells w ts
+value_spelled ts w (value v) a e = let i : v ≡ w = cc in subst (λ y. query.Spells y ts) i a
+value_spelled ts w (refusal None place) a e = absurd (let no : ⊥ = cc in no)
+value_spelled ts w (refusal (Some fault) place) a e = absurd (let no : ⊥ = cc in no)
+
+written_spells : (w : Written) (ts : List Symbol) → AllGood ts → query.Spells w ts → length (printed (query_of w)) ≤ longest → Spells (printed (query_of w)) (query_of w)
+written_spells w ts g s short =
+    let t = written_told w ts g s in
+    let x = whole_text t.written t.left (printed (query_of w)) t.told in
+    record {
+      as_written = t.written;
+      written = record { cut = record { short = short; tokens = x.fit }; spelled = (value t.written, x.spelled, refl) };
+      own = t.own;
+      is = t.same;
+    }
+
+pub printed_spells : PrintedSpells
+printed_spells text q s short =
+    let x = s.written.spelled in
+    let w = s.as_written in
+    let v = value_spelled (symbols_of text) w x.0 x.1 x.2 in
+    subst (λ y. length (printed y) ≤ longest → Spells (printed y) y) s.is (written_spells w (symbols_of text) (good_symbols text) v) short

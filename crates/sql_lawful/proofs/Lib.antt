@@ -1,0 +1,4 @@
+pub mod Always
+pub mod Parts
+pub mod Expressions
+pub mod Queries
