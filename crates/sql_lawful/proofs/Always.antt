@@ -66,7 +66,7 @@ no_fault false j a e = cc
 pub always-fault : {A : Type 0} (S : Type 0) (j : Fault) (test : Symbol → Bool) (P : A → Type 0) → Always {S = S} P (plain (fault j test))
 always-fault S j test P = always-terminal S (λ s. if test s then faults j else refuses) P (λ s a e. absurd (no_fault (test s) j a e))
 
-no_told : {A : Type 0} (o : Option Fault) (a : A) → told o ≡ takes a → ⊥
+pub no_told : {A : Type 0} (o : Option Fault) (a : A) → told o ≡ takes a → ⊥
 no_told None a e = cc
 no_told (Some j) a e = cc
 
