@@ -49,8 +49,11 @@ always-one_more j look P h n p ts w =
     let l = λ (s : Symbol). limited j (nat_lt 0 n) (look s) in
     subst (λ v. P v.0) w.1 (each-terminal l P (λ s a e. h s a (limited_takes j (nat_lt 0 n) (look s) a e)) w.0 ts w.2)
 
+abbrev pub verdict : {A : Type 0} → Verdict Fault A → Verdict Fault A
+verdict v = v
+
 -- what a test lets through, for what is made of it
-pub tested_takes : {A : Type 0} (t : Bool) (made_of a : A) (P : A → Type 0) → P made_of → (if t then takes {K = Fault} made_of else refuses) ≡ takes a → P a
+pub tested_takes : {A : Type 0} (t : Bool) (made_of a : A) (P : A → Type 0) → P made_of → verdict (if t then takes made_of else refuses) ≡ takes a → P a
 tested_takes true made_of a P h e = let i : made_of ≡ a = cc in subst P i h
 tested_takes false made_of a P h e = absurd (let no : ⊥ = cc in no)
 
@@ -59,7 +62,7 @@ always-literal test spelled P h =
     always-one_more too_many (λ s. if test (class s) then takes (spelled s) else refuses) P (λ s a e. tested_takes (test (class s)) (spelled s) a P (h s) e)
 
 -- a fault spells nothing
-no_fault : {A : Type 0} (t : Bool) (j : Fault) (a : A) → (if t then faults j else refuses) ≡ takes a → ⊥
+no_fault : {A : Type 0} (t : Bool) (j : Fault) (a : A) → verdict (if t then faults j else refuses) ≡ takes a → ⊥
 no_fault true j a e = cc
 no_fault false j a e = cc
 
@@ -115,7 +118,7 @@ module _ {S A : Type 0} where
   pub always-item : (over : Symbol → Option Fault) (G : Counted S Symbol Fault A) (P : A → Type 0) → Always P G → Always P (item over G)
   always-item over G P g c p ts w = by (nat_lt 0 c.0) w
     where
-      by : (v : Bool) → (one_of_two (made (λ q. (q.0, (c.0 - 1, q.1))) (G c.1)) (terminal (λ t. told (over t))) v).Spells p ts → P p.0
+      by : (v : Bool) → (one_of_two {A = A × (ℕ × S)} (made (λ q. (q.0, (c.0 - 1, q.1))) (G c.1)) (terminal (λ t. told (over t))) v).Spells p ts → P p.0
       by true x = subst (λ y. P y.0) x.1 (g c.1 x.0 ts x.2)
       by false x = each-terminal (λ t. told (over t)) (λ y. P y.0) (λ s a e. absurd (no_told (over s) a e)) p ts x
 

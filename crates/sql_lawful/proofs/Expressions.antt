@@ -1,6 +1,7 @@
 -- Each expression that the grammar spells is lawful.
-use Rattle.std.proofs.Common.{◌≡◌, ℕ, zero, suc, ◌&&◌, nat_le, Bool, true, false, List, [], ◌∷◌, Option, Some, None, is_some, refl, subst, if◌then◌else◌, chars, pos, negsuc}
+use Rattle.std.proofs.Common.{◌≡◌, ℕ, zero, suc, ◌&&◌, nat_le, Bool, true, false, List, [], ◌∷◌, Option, Some, None, is_some, refl, subst, if◌then◌else◌, chars, pos, negsuc, ◌≤◌, arith}
 use Rattle.std.specs.Option.{option_map}
+use Rattle.std.proofs.lemmas.Bool.{le-leb}
 use Rattle.text_view.specs.declared.view.Side.{Side}
 use Rattle.text_view.specs.declared.view.Side.TheVariants as side
 use Rattle.text_view.specs.declared.like.Part.{Part}
@@ -31,7 +32,7 @@ use Rattle.sql_grammar.specs.declared.tree.DatePart.TheVariants as part
 use Rattle.sql_grammar.specs.Marks.{Fault, unknown_function, unsupported_type, bad_escape, wrong_number, too_deep, too_many, class, of, is_unknown_call, is_number, is_decimal, is_for, begins_expression, text_in, number_in, text, digits_within, whole_within, whole_of, precision, scale, escape, escape_by, told_by, one_told, compare_op, sum_op, prod_op, date_part, stamp_part, simple_type, Form, literal_text, literal_number, truth, untruth, null_form, missing_form, path_form, unknown_call, exponent_form, cast_form, group_form, case_form, coalesce_form, nullif_form, char_length_form, lower_form, upper_form, substring_form, trim_form, extract_form, date_add_form, to_timestamp_form}
 use Rattle.sql_grammar.specs.Expressions.{Counting, Room, perhaps, word, opening, enclosed, listed, decimal_target, decimal_digits, type_of, path_step, path_name, or_node, and_node, sum_node, prod_node, Tail, comparing, lying, among, liking, being_null, being_missing, pred_node, not_node, unary_node, is_what, over_class, trim_side, side_or_both, flag, call, cast, group, arm, case_rest, case, coalesce, nullif, substring, trim_set, trim, extract, date_add, primary_of, primary, unary, prod_part, prod, sum_part, sum, comparison, between, members, in_members, like, is_tail, negatable, tail, pred, negation, conjunction, disjunction, room_of, expression}
 use Rattle.sql_lawful.specs.Lawful.{fits_escape, is_lawful_target, can_be_moved, is_lawful_expression}
-use Rattle.sql_lawful.proofs.Always.{Always, IfThere, Any, always-any, always-so, always-plain, always-terminal, always-one_more, always-literal, always-fault, always-given, always-both, always-after, always-past, always-before, always-maybe, always-either, always-chain, always-listed, always-list_of, always-perhaps, always-enclosed}
+use Rattle.sql_lawful.proofs.Always.{verdict, Always, IfThere, Any, always-any, always-so, always-plain, always-terminal, always-one_more, always-literal, always-fault, always-given, always-both, always-after, always-past, always-before, always-maybe, always-either, always-chain, always-listed, always-list_of, always-perhaps, always-enclosed}
 use Rattle.sql_lawful.proofs.Parts.{Fit, FitSumPart, FitProdPart, FitArm, FitTarget, and_both, fit_sum_part, fit_prod_part, fit_arm, fit_or, fit_and, fit_not, fit_compare, fit_between, fit_among, fit_like, fit_is_null, fit_is_missing, fit_sum, fit_prod, fit_minus, fit_text, fit_number, fit_bool, fit_null, fit_missing, fit_path, fit_cast, fit_case, fit_coalesce, fit_nullif, fit_char_length, fit_lower, fit_upper, fit_substring, fit_trim, fit_extract, fit_date_add, fit_to_timestamp}
 
 -- ---- types
@@ -78,8 +79,7 @@ abbrev FitSizes : ℕ × Option ℕ → Type 0
 FitSizes z = ((nat_le 1 z.0 && nat_le z.0 38) ≡ true) × IfThere (λ s. (nat_le 0 s && nat_le s z.0) ≡ true) z.1
 
 zero_fits : (p : ℕ) → nat_le 0 p ≡ true
-zero_fits zero = refl
-zero_fits (suc p) = refl
+zero_fits p = le-leb 0 p (omega arith)
 
 sizes_fit : (o : Option (ℕ × Option ℕ)) → IfThere FitSizes o → FitTarget (decimal_target o)
 sizes_fit None f = refl
@@ -115,7 +115,7 @@ type_fits room =
 
 -- ---- parts of timestamps
 
-moved_part : (c : Class) (p : DatePart) → told_by (date_part c) ≡ takes {K = Fault} p → can_be_moved p ≡ true
+moved_part : (c : Class) (p : DatePart) → verdict (told_by (date_part c)) ≡ takes p → can_be_moved p ≡ true
 moved_part k.Year p x = let i : part.Year ≡ p = cc in subst (λ q. can_be_moved q ≡ true) i refl
 moved_part k.YearCalled p x = let i : part.Year ≡ p = cc in subst (λ q. can_be_moved q ≡ true) i refl
 moved_part k.Month p x = let i : part.Month ≡ p = cc in subst (λ q. can_be_moved q ≡ true) i refl
@@ -207,7 +207,7 @@ fit_unary_node : (t : Bool) (a : Expr) → Fit a → Fit (unary_node t a)
 fit_unary_node true a f = fit_minus a f
 fit_unary_node false a f = f
 
-what_fits : (t : Bool) (c : Class) (x : Tail) → told_by (is_what t c) ≡ takes {K = Fault} x → FitTail x
+what_fits : (t : Bool) (c : Class) (x : Tail) → verdict (told_by (is_what t c)) ≡ takes x → FitTail x
 what_fits t k.Null x e = let i : being_null t ≡ x = cc in subst FitTail i tt
 what_fits t k.Missing x e = let i : being_missing t ≡ x = cc in subst FitTail i tt
 what_fits t _ x e = absurd (let no : ⊥ = cc in no)

@@ -56,40 +56,40 @@ fit_arm a b f g = fold_out-Arm Bool Bool Bool Bool lawful_step lawful_arm_step l
 -- ---- expressions
 
 pub fit_or : (xs : List Expr) → All Fit xs → Fit (e.Or xs)
-fit_or xs f_xs = ap is_lawful_expression (sym (e.rolls-Or xs)) ∙ fold-roll-Expr Bool Bool Bool Bool lawful_step lawful_arm_step lawful_prod_part_step lawful_sum_part_step (Expr-F.Or (map is_lawful_expression xs)) ∙ (each_all is_lawful_expression xs f_xs)
+fit_or xs f_xs = ap is_lawful_expression (sym (e.rolls-Or xs)) ∙ fold-roll-Expr Bool Bool Bool Bool lawful_step lawful_arm_step lawful_prod_part_step lawful_sum_part_step (Expr-F.Or xs) ∙ (each_all is_lawful_expression xs f_xs)
 
 pub fit_and : (xs : List Expr) → All Fit xs → Fit (e.And xs)
-fit_and xs f_xs = ap is_lawful_expression (sym (e.rolls-And xs)) ∙ fold-roll-Expr Bool Bool Bool Bool lawful_step lawful_arm_step lawful_prod_part_step lawful_sum_part_step (Expr-F.And (map is_lawful_expression xs)) ∙ (each_all is_lawful_expression xs f_xs)
+fit_and xs f_xs = ap is_lawful_expression (sym (e.rolls-And xs)) ∙ fold-roll-Expr Bool Bool Bool Bool lawful_step lawful_arm_step lawful_prod_part_step lawful_sum_part_step (Expr-F.And xs) ∙ (each_all is_lawful_expression xs f_xs)
 
 pub fit_not : (a : Expr) → Fit a → Fit (e.Not a)
-fit_not a f_a = ap is_lawful_expression (sym (e.rolls-Not a)) ∙ fold-roll-Expr Bool Bool Bool Bool lawful_step lawful_arm_step lawful_prod_part_step lawful_sum_part_step (Expr-F.Not (is_lawful_expression a)) ∙ f_a
+fit_not a f_a = ap is_lawful_expression (sym (e.rolls-Not a)) ∙ fold-roll-Expr Bool Bool Bool Bool lawful_step lawful_arm_step lawful_prod_part_step lawful_sum_part_step (Expr-F.Not a) ∙ f_a
 
 pub fit_compare : (op : CompareOp) (a : Expr) (b : Expr) → Fit a → Fit b → Fit (e.Compare op a b)
-fit_compare op a b f_a f_b = ap is_lawful_expression (sym (e.rolls-Compare op a b)) ∙ fold-roll-Expr Bool Bool Bool Bool lawful_step lawful_arm_step lawful_prod_part_step lawful_sum_part_step (Expr-F.Compare op (is_lawful_expression a) (is_lawful_expression b)) ∙ and_both (is_lawful_expression a) (is_lawful_expression b) f_a f_b
+fit_compare op a b f_a f_b = ap is_lawful_expression (sym (e.rolls-Compare op a b)) ∙ fold-roll-Expr Bool Bool Bool Bool lawful_step lawful_arm_step lawful_prod_part_step lawful_sum_part_step (Expr-F.Compare op a b) ∙ and_both (is_lawful_expression a) (is_lawful_expression b) f_a f_b
 
 pub fit_between : (t : Bool) (a : Expr) (b : Expr) (c : Expr) → Fit a → Fit b → Fit c → Fit (e.Between t a b c)
-fit_between t a b c f_a f_b f_c = ap is_lawful_expression (sym (e.rolls-Between t a b c)) ∙ fold-roll-Expr Bool Bool Bool Bool lawful_step lawful_arm_step lawful_prod_part_step lawful_sum_part_step (Expr-F.Between t (is_lawful_expression a) (is_lawful_expression b) (is_lawful_expression c)) ∙ and_both (is_lawful_expression a) ((is_lawful_expression b) && (is_lawful_expression c)) f_a (and_both (is_lawful_expression b) (is_lawful_expression c) f_b f_c)
+fit_between t a b c f_a f_b f_c = ap is_lawful_expression (sym (e.rolls-Between t a b c)) ∙ fold-roll-Expr Bool Bool Bool Bool lawful_step lawful_arm_step lawful_prod_part_step lawful_sum_part_step (Expr-F.Between t a b c) ∙ and_both (is_lawful_expression a) ((is_lawful_expression b) && (is_lawful_expression c)) f_a (and_both (is_lawful_expression b) (is_lawful_expression c) f_b f_c)
 
 pub fit_among : (t : Bool) (a : Expr) (xs : List Expr) → Fit a → All Fit xs → Fit (e.Among t a xs)
-fit_among t a xs f_a f_xs = ap is_lawful_expression (sym (e.rolls-Among t a xs)) ∙ fold-roll-Expr Bool Bool Bool Bool lawful_step lawful_arm_step lawful_prod_part_step lawful_sum_part_step (Expr-F.Among t (is_lawful_expression a) (map is_lawful_expression xs)) ∙ and_both (is_lawful_expression a) (each (map is_lawful_expression xs)) f_a (each_all is_lawful_expression xs f_xs)
+fit_among t a xs f_a f_xs = ap is_lawful_expression (sym (e.rolls-Among t a xs)) ∙ fold-roll-Expr Bool Bool Bool Bool lawful_step lawful_arm_step lawful_prod_part_step lawful_sum_part_step (Expr-F.Among t a xs) ∙ and_both (is_lawful_expression a) (each (map is_lawful_expression xs)) f_a (each_all is_lawful_expression xs f_xs)
 
 pub fit_like : (t : Bool) (a : Expr) (pattern : List ℕ) (escape : Option ℕ) → Fit a → fits_escape pattern escape ≡ true → Fit (e.Like t a pattern escape)
-fit_like t a pattern escape f_a fits = ap is_lawful_expression (sym (e.rolls-Like t a pattern escape)) ∙ fold-roll-Expr Bool Bool Bool Bool lawful_step lawful_arm_step lawful_prod_part_step lawful_sum_part_step (Expr-F.Like t (is_lawful_expression a) pattern escape) ∙ and_both (is_lawful_expression a) (fits_escape pattern escape) f_a fits
+fit_like t a pattern escape f_a fits = ap is_lawful_expression (sym (e.rolls-Like t a pattern escape)) ∙ fold-roll-Expr Bool Bool Bool Bool lawful_step lawful_arm_step lawful_prod_part_step lawful_sum_part_step (Expr-F.Like t a pattern escape) ∙ and_both (is_lawful_expression a) (fits_escape pattern escape) f_a fits
 
 pub fit_is_null : (t : Bool) (a : Expr) → Fit a → Fit (e.IsNull t a)
-fit_is_null t a f_a = ap is_lawful_expression (sym (e.rolls-IsNull t a)) ∙ fold-roll-Expr Bool Bool Bool Bool lawful_step lawful_arm_step lawful_prod_part_step lawful_sum_part_step (Expr-F.IsNull t (is_lawful_expression a)) ∙ f_a
+fit_is_null t a f_a = ap is_lawful_expression (sym (e.rolls-IsNull t a)) ∙ fold-roll-Expr Bool Bool Bool Bool lawful_step lawful_arm_step lawful_prod_part_step lawful_sum_part_step (Expr-F.IsNull t a) ∙ f_a
 
 pub fit_is_missing : (t : Bool) (a : Expr) → Fit a → Fit (e.IsMissing t a)
-fit_is_missing t a f_a = ap is_lawful_expression (sym (e.rolls-IsMissing t a)) ∙ fold-roll-Expr Bool Bool Bool Bool lawful_step lawful_arm_step lawful_prod_part_step lawful_sum_part_step (Expr-F.IsMissing t (is_lawful_expression a)) ∙ f_a
+fit_is_missing t a f_a = ap is_lawful_expression (sym (e.rolls-IsMissing t a)) ∙ fold-roll-Expr Bool Bool Bool Bool lawful_step lawful_arm_step lawful_prod_part_step lawful_sum_part_step (Expr-F.IsMissing t a) ∙ f_a
 
 pub fit_sum : (a : Expr) (xs : List SumPart) → Fit a → All FitSumPart xs → Fit (e.Sum a xs)
-fit_sum a xs f_a f_xs = ap is_lawful_expression (sym (e.rolls-Sum a xs)) ∙ fold-roll-Expr Bool Bool Bool Bool lawful_step lawful_arm_step lawful_prod_part_step lawful_sum_part_step (Expr-F.Sum (is_lawful_expression a) (map is_lawful_sum_part xs)) ∙ and_both (is_lawful_expression a) (each (map is_lawful_sum_part xs)) f_a (each_all is_lawful_sum_part xs f_xs)
+fit_sum a xs f_a f_xs = ap is_lawful_expression (sym (e.rolls-Sum a xs)) ∙ fold-roll-Expr Bool Bool Bool Bool lawful_step lawful_arm_step lawful_prod_part_step lawful_sum_part_step (Expr-F.Sum a xs) ∙ and_both (is_lawful_expression a) (each (map is_lawful_sum_part xs)) f_a (each_all is_lawful_sum_part xs f_xs)
 
 pub fit_prod : (a : Expr) (xs : List ProdPart) → Fit a → All FitProdPart xs → Fit (e.Prod a xs)
-fit_prod a xs f_a f_xs = ap is_lawful_expression (sym (e.rolls-Prod a xs)) ∙ fold-roll-Expr Bool Bool Bool Bool lawful_step lawful_arm_step lawful_prod_part_step lawful_sum_part_step (Expr-F.Prod (is_lawful_expression a) (map is_lawful_prod_part xs)) ∙ and_both (is_lawful_expression a) (each (map is_lawful_prod_part xs)) f_a (each_all is_lawful_prod_part xs f_xs)
+fit_prod a xs f_a f_xs = ap is_lawful_expression (sym (e.rolls-Prod a xs)) ∙ fold-roll-Expr Bool Bool Bool Bool lawful_step lawful_arm_step lawful_prod_part_step lawful_sum_part_step (Expr-F.Prod a xs) ∙ and_both (is_lawful_expression a) (each (map is_lawful_prod_part xs)) f_a (each_all is_lawful_prod_part xs f_xs)
 
 pub fit_minus : (a : Expr) → Fit a → Fit (e.Minus a)
-fit_minus a f_a = ap is_lawful_expression (sym (e.rolls-Minus a)) ∙ fold-roll-Expr Bool Bool Bool Bool lawful_step lawful_arm_step lawful_prod_part_step lawful_sum_part_step (Expr-F.Minus (is_lawful_expression a)) ∙ f_a
+fit_minus a f_a = ap is_lawful_expression (sym (e.rolls-Minus a)) ∙ fold-roll-Expr Bool Bool Bool Bool lawful_step lawful_arm_step lawful_prod_part_step lawful_sum_part_step (Expr-F.Minus a) ∙ f_a
 
 pub fit_text : (bytes : List ℕ) → Fit (e.Text bytes)
 fit_text bytes = ap is_lawful_expression (sym (e.rolls-Text bytes)) ∙ fold-roll-Expr Bool Bool Bool Bool lawful_step lawful_arm_step lawful_prod_part_step lawful_sum_part_step (Expr-F.Text bytes)
@@ -110,42 +110,42 @@ pub fit_path : (steps : List PathStep) → Fit (e.Path steps)
 fit_path steps = ap is_lawful_expression (sym (e.rolls-Path steps)) ∙ fold-roll-Expr Bool Bool Bool Bool lawful_step lawful_arm_step lawful_prod_part_step lawful_sum_part_step (Expr-F.Path steps)
 
 pub fit_cast : (a : Expr) (target : CastTarget) → Fit a → FitTarget target → Fit (e.Cast a target)
-fit_cast a target f_a fits = ap is_lawful_expression (sym (e.rolls-Cast a target)) ∙ fold-roll-Expr Bool Bool Bool Bool lawful_step lawful_arm_step lawful_prod_part_step lawful_sum_part_step (Expr-F.Cast (is_lawful_expression a) target) ∙ and_both (is_lawful_expression a) (is_lawful_target target) f_a fits
+fit_cast a target f_a fits = ap is_lawful_expression (sym (e.rolls-Cast a target)) ∙ fold-roll-Expr Bool Bool Bool Bool lawful_step lawful_arm_step lawful_prod_part_step lawful_sum_part_step (Expr-F.Cast a target) ∙ and_both (is_lawful_expression a) (is_lawful_target target) f_a fits
 
 pub fit_case : (operand : Option Expr) (arms : List Arm) (otherwise : Option Expr) → IfThere Fit operand → All FitArm arms → IfThere Fit otherwise → Fit (e.Case operand arms otherwise)
-fit_case None arms None f g h = ap is_lawful_expression (sym (e.rolls-Case None arms None)) ∙ fold-roll-Expr Bool Bool Bool Bool lawful_step lawful_arm_step lawful_prod_part_step lawful_sum_part_step (Expr-F.Case None (map is_lawful_arm arms) None) ∙ and_both true (each (map is_lawful_arm arms) && true) refl (and_both (each (map is_lawful_arm arms)) true (each_all is_lawful_arm arms g) refl)
-fit_case None arms (Some w) f g h = ap is_lawful_expression (sym (e.rolls-Case None arms (Some w))) ∙ fold-roll-Expr Bool Bool Bool Bool lawful_step lawful_arm_step lawful_prod_part_step lawful_sum_part_step (Expr-F.Case None (map is_lawful_arm arms) (Some (is_lawful_expression w))) ∙ and_both true (each (map is_lawful_arm arms) && (is_lawful_expression w)) refl (and_both (each (map is_lawful_arm arms)) (is_lawful_expression w) (each_all is_lawful_arm arms g) h)
-fit_case (Some o) arms None f g h = ap is_lawful_expression (sym (e.rolls-Case (Some o) arms None)) ∙ fold-roll-Expr Bool Bool Bool Bool lawful_step lawful_arm_step lawful_prod_part_step lawful_sum_part_step (Expr-F.Case (Some (is_lawful_expression o)) (map is_lawful_arm arms) None) ∙ and_both (is_lawful_expression o) (each (map is_lawful_arm arms) && true) f (and_both (each (map is_lawful_arm arms)) true (each_all is_lawful_arm arms g) refl)
-fit_case (Some o) arms (Some w) f g h = ap is_lawful_expression (sym (e.rolls-Case (Some o) arms (Some w))) ∙ fold-roll-Expr Bool Bool Bool Bool lawful_step lawful_arm_step lawful_prod_part_step lawful_sum_part_step (Expr-F.Case (Some (is_lawful_expression o)) (map is_lawful_arm arms) (Some (is_lawful_expression w))) ∙ and_both (is_lawful_expression o) (each (map is_lawful_arm arms) && (is_lawful_expression w)) f (and_both (each (map is_lawful_arm arms)) (is_lawful_expression w) (each_all is_lawful_arm arms g) h)
+fit_case None arms None f g h = ap is_lawful_expression (sym (e.rolls-Case None arms None)) ∙ fold-roll-Expr Bool Bool Bool Bool lawful_step lawful_arm_step lawful_prod_part_step lawful_sum_part_step (Expr-F.Case None arms None) ∙ and_both true (each (map is_lawful_arm arms) && true) refl (and_both (each (map is_lawful_arm arms)) true (each_all is_lawful_arm arms g) refl)
+fit_case None arms (Some w) f g h = ap is_lawful_expression (sym (e.rolls-Case None arms (Some w))) ∙ fold-roll-Expr Bool Bool Bool Bool lawful_step lawful_arm_step lawful_prod_part_step lawful_sum_part_step (Expr-F.Case None arms (Some w)) ∙ and_both true (each (map is_lawful_arm arms) && (is_lawful_expression w)) refl (and_both (each (map is_lawful_arm arms)) (is_lawful_expression w) (each_all is_lawful_arm arms g) h)
+fit_case (Some o) arms None f g h = ap is_lawful_expression (sym (e.rolls-Case (Some o) arms None)) ∙ fold-roll-Expr Bool Bool Bool Bool lawful_step lawful_arm_step lawful_prod_part_step lawful_sum_part_step (Expr-F.Case (Some o) arms None) ∙ and_both (is_lawful_expression o) (each (map is_lawful_arm arms) && true) f (and_both (each (map is_lawful_arm arms)) true (each_all is_lawful_arm arms g) refl)
+fit_case (Some o) arms (Some w) f g h = ap is_lawful_expression (sym (e.rolls-Case (Some o) arms (Some w))) ∙ fold-roll-Expr Bool Bool Bool Bool lawful_step lawful_arm_step lawful_prod_part_step lawful_sum_part_step (Expr-F.Case (Some o) arms (Some w)) ∙ and_both (is_lawful_expression o) (each (map is_lawful_arm arms) && (is_lawful_expression w)) f (and_both (each (map is_lawful_arm arms)) (is_lawful_expression w) (each_all is_lawful_arm arms g) h)
 
 pub fit_coalesce : (xs : List Expr) → All Fit xs → Fit (e.Coalesce xs)
-fit_coalesce xs f_xs = ap is_lawful_expression (sym (e.rolls-Coalesce xs)) ∙ fold-roll-Expr Bool Bool Bool Bool lawful_step lawful_arm_step lawful_prod_part_step lawful_sum_part_step (Expr-F.Coalesce (map is_lawful_expression xs)) ∙ (each_all is_lawful_expression xs f_xs)
+fit_coalesce xs f_xs = ap is_lawful_expression (sym (e.rolls-Coalesce xs)) ∙ fold-roll-Expr Bool Bool Bool Bool lawful_step lawful_arm_step lawful_prod_part_step lawful_sum_part_step (Expr-F.Coalesce xs) ∙ (each_all is_lawful_expression xs f_xs)
 
 pub fit_nullif : (a : Expr) (b : Expr) → Fit a → Fit b → Fit (e.NullIf a b)
-fit_nullif a b f_a f_b = ap is_lawful_expression (sym (e.rolls-NullIf a b)) ∙ fold-roll-Expr Bool Bool Bool Bool lawful_step lawful_arm_step lawful_prod_part_step lawful_sum_part_step (Expr-F.NullIf (is_lawful_expression a) (is_lawful_expression b)) ∙ and_both (is_lawful_expression a) (is_lawful_expression b) f_a f_b
+fit_nullif a b f_a f_b = ap is_lawful_expression (sym (e.rolls-NullIf a b)) ∙ fold-roll-Expr Bool Bool Bool Bool lawful_step lawful_arm_step lawful_prod_part_step lawful_sum_part_step (Expr-F.NullIf a b) ∙ and_both (is_lawful_expression a) (is_lawful_expression b) f_a f_b
 
 pub fit_char_length : (a : Expr) → Fit a → Fit (e.CharLength a)
-fit_char_length a f_a = ap is_lawful_expression (sym (e.rolls-CharLength a)) ∙ fold-roll-Expr Bool Bool Bool Bool lawful_step lawful_arm_step lawful_prod_part_step lawful_sum_part_step (Expr-F.CharLength (is_lawful_expression a)) ∙ f_a
+fit_char_length a f_a = ap is_lawful_expression (sym (e.rolls-CharLength a)) ∙ fold-roll-Expr Bool Bool Bool Bool lawful_step lawful_arm_step lawful_prod_part_step lawful_sum_part_step (Expr-F.CharLength a) ∙ f_a
 
 pub fit_lower : (a : Expr) → Fit a → Fit (e.Lower a)
-fit_lower a f_a = ap is_lawful_expression (sym (e.rolls-Lower a)) ∙ fold-roll-Expr Bool Bool Bool Bool lawful_step lawful_arm_step lawful_prod_part_step lawful_sum_part_step (Expr-F.Lower (is_lawful_expression a)) ∙ f_a
+fit_lower a f_a = ap is_lawful_expression (sym (e.rolls-Lower a)) ∙ fold-roll-Expr Bool Bool Bool Bool lawful_step lawful_arm_step lawful_prod_part_step lawful_sum_part_step (Expr-F.Lower a) ∙ f_a
 
 pub fit_upper : (a : Expr) → Fit a → Fit (e.Upper a)
-fit_upper a f_a = ap is_lawful_expression (sym (e.rolls-Upper a)) ∙ fold-roll-Expr Bool Bool Bool Bool lawful_step lawful_arm_step lawful_prod_part_step lawful_sum_part_step (Expr-F.Upper (is_lawful_expression a)) ∙ f_a
+fit_upper a f_a = ap is_lawful_expression (sym (e.rolls-Upper a)) ∙ fold-roll-Expr Bool Bool Bool Bool lawful_step lawful_arm_step lawful_prod_part_step lawful_sum_part_step (Expr-F.Upper a) ∙ f_a
 
 pub fit_substring : (a b : Expr) (count : Option Expr) → Fit a → Fit b → IfThere Fit count → Fit (e.Substring a b count)
-fit_substring a b None f g h = ap is_lawful_expression (sym (e.rolls-Substring a b None)) ∙ fold-roll-Expr Bool Bool Bool Bool lawful_step lawful_arm_step lawful_prod_part_step lawful_sum_part_step (Expr-F.Substring (is_lawful_expression a) (is_lawful_expression b) None) ∙ and_both (is_lawful_expression a) ((is_lawful_expression b) && true) f (and_both (is_lawful_expression b) true g refl)
-fit_substring a b (Some o) f g h = ap is_lawful_expression (sym (e.rolls-Substring a b (Some o))) ∙ fold-roll-Expr Bool Bool Bool Bool lawful_step lawful_arm_step lawful_prod_part_step lawful_sum_part_step (Expr-F.Substring (is_lawful_expression a) (is_lawful_expression b) (Some (is_lawful_expression o))) ∙ and_both (is_lawful_expression a) ((is_lawful_expression b) && (is_lawful_expression o)) f (and_both (is_lawful_expression b) (is_lawful_expression o) g h)
+fit_substring a b None f g h = ap is_lawful_expression (sym (e.rolls-Substring a b None)) ∙ fold-roll-Expr Bool Bool Bool Bool lawful_step lawful_arm_step lawful_prod_part_step lawful_sum_part_step (Expr-F.Substring a b None) ∙ and_both (is_lawful_expression a) ((is_lawful_expression b) && true) f (and_both (is_lawful_expression b) true g refl)
+fit_substring a b (Some o) f g h = ap is_lawful_expression (sym (e.rolls-Substring a b (Some o))) ∙ fold-roll-Expr Bool Bool Bool Bool lawful_step lawful_arm_step lawful_prod_part_step lawful_sum_part_step (Expr-F.Substring a b (Some o)) ∙ and_both (is_lawful_expression a) ((is_lawful_expression b) && (is_lawful_expression o)) f (and_both (is_lawful_expression b) (is_lawful_expression o) g h)
 
 pub fit_trim : (side : Side) (set : Option Expr) (a : Expr) → IfThere Fit set → Fit a → Fit (e.Trim side set a)
-fit_trim side None a f g = ap is_lawful_expression (sym (e.rolls-Trim side None a)) ∙ fold-roll-Expr Bool Bool Bool Bool lawful_step lawful_arm_step lawful_prod_part_step lawful_sum_part_step (Expr-F.Trim side None (is_lawful_expression a)) ∙ and_both true (is_lawful_expression a) refl g
-fit_trim side (Some o) a f g = ap is_lawful_expression (sym (e.rolls-Trim side (Some o) a)) ∙ fold-roll-Expr Bool Bool Bool Bool lawful_step lawful_arm_step lawful_prod_part_step lawful_sum_part_step (Expr-F.Trim side (Some (is_lawful_expression o)) (is_lawful_expression a)) ∙ and_both (is_lawful_expression o) (is_lawful_expression a) f g
+fit_trim side None a f g = ap is_lawful_expression (sym (e.rolls-Trim side None a)) ∙ fold-roll-Expr Bool Bool Bool Bool lawful_step lawful_arm_step lawful_prod_part_step lawful_sum_part_step (Expr-F.Trim side None a) ∙ and_both true (is_lawful_expression a) refl g
+fit_trim side (Some o) a f g = ap is_lawful_expression (sym (e.rolls-Trim side (Some o) a)) ∙ fold-roll-Expr Bool Bool Bool Bool lawful_step lawful_arm_step lawful_prod_part_step lawful_sum_part_step (Expr-F.Trim side (Some o) a) ∙ and_both (is_lawful_expression o) (is_lawful_expression a) f g
 
 pub fit_extract : (part : DatePart) (a : Expr) → Fit a → Fit (e.Extract part a)
-fit_extract part a f_a = ap is_lawful_expression (sym (e.rolls-Extract part a)) ∙ fold-roll-Expr Bool Bool Bool Bool lawful_step lawful_arm_step lawful_prod_part_step lawful_sum_part_step (Expr-F.Extract part (is_lawful_expression a)) ∙ f_a
+fit_extract part a f_a = ap is_lawful_expression (sym (e.rolls-Extract part a)) ∙ fold-roll-Expr Bool Bool Bool Bool lawful_step lawful_arm_step lawful_prod_part_step lawful_sum_part_step (Expr-F.Extract part a) ∙ f_a
 
 pub fit_date_add : (part : DatePart) (a : Expr) (b : Expr) → Fit a → Fit b → can_be_moved part ≡ true → Fit (e.DateAdd part a b)
-fit_date_add part a b f_a f_b moved = ap is_lawful_expression (sym (e.rolls-DateAdd part a b)) ∙ fold-roll-Expr Bool Bool Bool Bool lawful_step lawful_arm_step lawful_prod_part_step lawful_sum_part_step (Expr-F.DateAdd part (is_lawful_expression a) (is_lawful_expression b)) ∙ and_both (can_be_moved part) ((is_lawful_expression a) && (is_lawful_expression b)) moved (and_both (is_lawful_expression a) (is_lawful_expression b) f_a f_b)
+fit_date_add part a b f_a f_b moved = ap is_lawful_expression (sym (e.rolls-DateAdd part a b)) ∙ fold-roll-Expr Bool Bool Bool Bool lawful_step lawful_arm_step lawful_prod_part_step lawful_sum_part_step (Expr-F.DateAdd part a b) ∙ and_both (can_be_moved part) ((is_lawful_expression a) && (is_lawful_expression b)) moved (and_both (is_lawful_expression a) (is_lawful_expression b) f_a f_b)
 
 pub fit_to_timestamp : (a : Expr) → Fit a → Fit (e.ToTimestamp a)
-fit_to_timestamp a f_a = ap is_lawful_expression (sym (e.rolls-ToTimestamp a)) ∙ fold-roll-Expr Bool Bool Bool Bool lawful_step lawful_arm_step lawful_prod_part_step lawful_sum_part_step (Expr-F.ToTimestamp (is_lawful_expression a)) ∙ f_a
+fit_to_timestamp a f_a = ap is_lawful_expression (sym (e.rolls-ToTimestamp a)) ∙ fold-roll-Expr Bool Bool Bool Bool lawful_step lawful_arm_step lawful_prod_part_step lawful_sum_part_step (Expr-F.ToTimestamp a) ∙ f_a

@@ -41,10 +41,15 @@ FitAgg a = is_lawful_agg a ≡ true
 abbrev FitTotal : Total → Type 0
 FitTotal t = is_lawful_total t ≡ true
 
+abbrev item_of : Expr × Option Name → Item
+item_of p = record { expr = p.0; name = p.1 }
+
+abbrev total_of : Agg × Option Name → Total
+total_of p = record { agg = p.0; name = p.1 }
+
 fits_row : Always FitItem row
 fits_row =
-    let f = λ (p : Expr × Option Name). record { expr = p.0; name = p.1 } in
-    always-given f (both (expression 64) as_name) (λ p. Fit p.0 × Any p.1) FitItem (λ p x. x.0) (always-both (expression 64) as_name Fit Any (fits_expression 64) (always-any as_name))
+    always-given item_of (both (expression 64) as_name) (λ p. Fit p.0 × Any p.1) FitItem (λ p x. x.0) (always-both (expression 64) as_name Fit Any (fits_expression 64) (always-any as_name))
 
 fits_rows : Always (All FitItem) rows
 fits_rows = always-list_of 256 (λ s. over_class true (class s)) (of k.Comma) row FitItem fits_row
@@ -73,8 +78,7 @@ fits_later_agg = always-either any_agg (plain (terminal (λ s. told (mixed_class
 
 fits_total : (G : Counting Agg) → Always FitAgg G → Always FitTotal (total G)
 fits_total G g =
-    let f = λ (p : Agg × Option Name). record { agg = p.0; name = p.1 } in
-    always-given f (both G as_name) (λ p. FitAgg p.0 × Any p.1) FitTotal (λ p x. x.0) (always-both G as_name FitAgg Any g (always-any as_name))
+    always-given total_of (both G as_name) (λ p. FitAgg p.0 × Any p.1) FitTotal (λ p x. x.0) (always-both G as_name FitAgg Any g (always-any as_name))
 
 fits_totals : Always (All FitTotal) totals
 fits_totals n p ts w =
@@ -114,7 +118,7 @@ over s = over_step (class s)
 one_step : (c : ℕ × ℕ) (p : Step × (ℕ × ℕ)) (ts : List Symbol) → (item over source_step c).Spells p ts → c.0 ≡ suc p.1.0
 one_step c p ts w = by (nat_lt 0 c.0) refl w
   where
-    by : (v : Bool) → nat_lt 0 c.0 ≡ v → (one_of_two (made (λ q. (q.0, (c.0 - 1, q.1))) (source_step c.1)) (terminal (λ t. told (over t))) v).Spells p ts → c.0 ≡ suc p.1.0
+    by : (v : Bool) → nat_lt 0 c.0 ≡ v → (one_of_two {A = Step × (ℕ × ℕ)} (made (λ q. (q.0, (c.0 - 1, q.1))) (source_step c.1)) (terminal (λ t. told (over t))) v).Spells p ts → c.0 ≡ suc p.1.0
     by true v x = subst (λ y. c.0 ≡ suc y.1.0) x.1 (let l = ltb-true 0 c.0 v in omega arith)
     by false v x = each-terminal (λ t. told (over t)) (λ y. c.0 ≡ suc y.1.0) (λ t a e. absurd (no_told (over t) a e)) p ts x
 

@@ -2,7 +2,6 @@
 ghost use Rattle.sql_lawful.specs.Laws.{EachSpelledIsLawful};
 
 /// A law: each query that a text spells is lawful. So what is parsed needs no further test before it is bound.
-#[tactic(auto, using(crate::proofs::Queries::each_spelled_is_lawful))]
 pub fn spelled_queries_are_lawful()
     ensures { EachSpelledIsLawful }
 {}
