@@ -1,5 +1,5 @@
 -- The law of printing: the text of a query that some text spells, spells that query.
-use Rattle.std.proofs.Common.{◌≡◌, ℕ, zero, suc, ◌+◌, ◌-◌, ◌≤◌, ◌<◌, ◌&&◌, nat_le, Bool, true, false, List, [], ◌∷◌, ◌++◌, map, length, Option, Some, None, refl, sym, ap, ◌∙◌, subst, arith, append_assoc, if◌then◌else◌, codes, decimal}
+use Rattle.std.proofs.Common.{◌≡◌, ℕ, zero, suc, ◌+◌, ◌-◌, ◌≤◌, ◌<◌, ◌&&◌, nat_le, Bool, true, false, List, [], ◌∷◌, ◌++◌, map, length, Option, Some, None, Result, Ok, refl, sym, ap, ◌∙◌, subst, arith, append_assoc, if◌then◌else◌, codes, decimal}
 use Rattle.std.proofs.lemmas.Bool.{leb-true}
 use Rattle.std.proofs.lemmas.List.{append-nil}
 use Rattle.sql_tokens.specs.declared.class.Class.TheVariants as k
@@ -19,8 +19,8 @@ use Rattle.sql_grammar.specs.declared.tree.Selection.TheVariants as selection
 use Rattle.sql_grammar.specs.Marks.{Fault, of, digits}
 use Rattle.sql_grammar.specs.Expressions.{Counting, expression}
 use Rattle.sql_grammar.specs.Queries.{rows, totals, Selected, everything, everything_of, selected, items, all_of_name, selection_list, source, filter, ending, Written, written_of, whole_query, query}
-use Rattle.sql_grammar.specs.Faults.{is_own_name, names_source, source_name, selection_of, query_of, misplaced, IsCut, IsWritten, Spells, longest}
-use Rattle.sql_printed.specs.Law.{PrintedSpells}
+use Rattle.sql_grammar.specs.Faults.{is_own_name, names_source, source_name, selection_of, query_of, misplaced, IsCut, IsWritten, Spells, Parses, OneParse, longest}
+use Rattle.sql_printed.specs.Law.{PrintedSpells, PrintedReadsBack}
 use Rattle.sql_printed.specs.Shown.{shown}
 use Rattle.sql_printed.specs.Printed.{printed, selection_text, item_text, total_text, source_text, filter_text, limit_text}
 use Rattle.sql_printed.proofs.Telling.{is_clear, Starts, Cuts, Prints, Word, Told, told-both, told-given, told-into, told-past, told-as, told-plain, cuts-into, cuts-past, cuts-nothing, cuts-sequence, fit-one}
@@ -238,8 +238,12 @@ written_spells w ts g s short =
     }
 
 pub printed_spells : PrintedSpells
-printed_spells text q s short =
+printed_spells q text s short =
     let x = s.written.spelled in
     let w = s.as_written in
     let v = value_spelled (symbols_of text) w x.0 x.1 x.2 in
     subst (λ y. length (printed y) ≤ longest → Spells (printed y) y) s.is (written_spells w (symbols_of text) (good_symbols text) v) short
+
+-- by the law that each text is one query or has one fault
+pub printed_reads_back : OneParse → PrintedReadsBack
+printed_reads_back one q text s short r p = one (printed q) r (Ok q) p (printed_spells q text s short)
