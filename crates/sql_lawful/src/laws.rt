@@ -1,7 +1,9 @@
-//! The law of lawful queries.
-ghost use Rattle.sql_lawful.specs.Laws.{EachSpelledIsLawful};
+//! The laws of lawful queries.
+ghost use Rattle.sql_lawful.specs.Laws.{EachSpelledIsLawful, EachSpelledIsShallow};
 
-/// A law: each query that a text spells is lawful. So what is parsed needs no further test before it is bound.
+/// Laws: each query that a text spells is lawful, so that what is parsed needs no further test before it is bound; and none of
+/// its expressions is deeper than 520 nodes, so that a walk over one calls itself no deeper.
 pub fn spelled_queries_are_lawful()
-    ensures { EachSpelledIsLawful }
+    ensures lawful { EachSpelledIsLawful }
+    ensures shallow { EachSpelledIsShallow }
 {}
