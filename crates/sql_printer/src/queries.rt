@@ -2,10 +2,12 @@
 ghost use Rattle.std.specs.Prelude.{◌≡◌, ◌++◌, codes, map, OnOk, IfOk};
 ghost use Rattle.grammar_rules.specs.Spelled.{print_all};
 ghost use Rattle.sql_printed.specs.Shown.{joined};
+ghost use Rattle.sql_printed.specs.Law.{ReadsBack, SpellsAgain};
 ghost use Rattle.sql_printed.specs.Printed.{whole_text, as_text, item_text, call_text, agg_text, total_text, selection_text, step_text, steps_front, alias_text, source_text, filter_text, limit_text, printed};
 
 use crate::writer::Writer;
 use sql_grammar::{Agg, Expr, Item, Name, Query, Selection, Step, Total};
+use sql_printed::printed_queries_spell;
 use sql_tokens::TextBuf;
 use std::alloc::{AllocError, Global};
 
@@ -189,11 +191,21 @@ fn steps_front(steps: &[Step]) -> &'static str
     }
 }
 
-/// The text of a query: keywords in capitals, one blank between words, parentheses only where the tree needs them.
-pub fn print(alloc: Global, query: &Query) -> Result<TextBuf, AllocError>
+fn text_of(alloc: Global, query: &Query) -> Result<TextBuf, AllocError>
     ensures { IfOk result (λ text. text ≡ printed query.now) }
 {
     let mut writer = Writer::new(alloc)?;
     writer.query(query)?;
     writer.finish(alloc)
+}
+
+/// The text of a query: keywords in capitals, one blank between words, parentheses only where the tree needs them. Of a
+/// query that some text spells, as each that is parsed, it spells that query again, where it has at most 262,144 bytes.
+pub fn print(alloc: Global, query: &Query) -> Result<TextBuf, AllocError>
+    ensures text { IfOk result (λ text. text ≡ printed query.now) }
+    ensures spells { IfOk result (λ text. SpellsAgain text query.now) }
+    ensures read_back { IfOk result (λ text. ReadsBack text query.now) }
+{
+    printed_queries_spell();
+    text_of(alloc, query)
 }
