@@ -107,7 +107,7 @@ module _ (room : Room) (inner : Counting Expr) (read : Reader Expr) (g : Countab
       (in_pair (flag k.Minus) (primary room inner) (seen_or_nothing (is k.Minus) (is k.Minus)) primary_sight unary_sight (read_flag k.Minus) (read_primary room read) refl refl
       (reads-flag k.Minus refl refl) (reads-primary room inner read g))
 
-  reads-prod_part : Countable (prod_part room inner) (seen is_prod_op is_step) (read_prod_part room read)
+  pub reads-prod_part : Countable (prod_part room inner) (seen is_prod_op is_step) (read_prod_part room read)
   unfolding read_prod_part same_class
   reads-prod_part =
       as_given (λ p. roll-ProdPart (record { op = p.0; member = p.1 })) (both (plain (terminal (one_told prod_op))) (unary room inner)) (seen is_prod_op is_step) (read_both (read_plain (read_terminal (one_told prod_op))) (read_unary room read))
@@ -118,7 +118,7 @@ module _ (room : Room) (inner : Counting Expr) (read : Reader Expr) (g : Countab
   unfolding prod read_prod same_class
   reads-prod = in_chain prod_node (unary room inner) (prod_part room inner) unary_sight (seen is_prod_op is_step) prod_sight (read_unary room read) (read_prod_part room read) refl refl refl refl reads-unary reads-prod_part
 
-  reads-sum_part : Countable (sum_part room inner) (seen is_sum_op prod_more) (read_sum_part room read)
+  pub reads-sum_part : Countable (sum_part room inner) (seen is_sum_op prod_more) (read_sum_part room read)
   unfolding read_sum_part same_class
   reads-sum_part =
       as_given (λ p. roll-SumPart (record { op = p.0; member = p.1 })) (both (plain (terminal (one_told sum_op))) (prod room inner)) (seen is_sum_op prod_more) (read_both (read_plain (read_terminal (one_told sum_op))) (read_prod room read))
@@ -302,14 +302,14 @@ module _ (room : Room) (inner : Counting Expr) (read : Reader Expr) (g : Countab
       (in_pair (sum room inner) (maybe (tail room inner)) sum_sight tail_or_none pred_sight (read_sum room read) (read_maybe (begins begins_tail) (read_tail room read)) refl refl
       reads-sum (maybe_so (tail room inner) tail_sight tail_or_none (read_tail room read) refl refl reads-tail))
 
-  reads-negation : Countable (negation room inner) not_sight (read_negation room read)
+  pub reads-negation : Countable (negation room inner) not_sight (read_negation room read)
   unfolding negation read_negation same_class
   reads-negation =
       as_given (λ p. not_node p.0 p.1) (both (flag k.Not) (pred room inner)) not_sight (read_both (read_flag k.Not) (read_pred room read))
       (in_pair (flag k.Not) (pred room inner) (seen_or_nothing (is k.Not) (is k.Not)) pred_sight not_sight (read_flag k.Not) (read_pred room read) refl refl
       (reads-flag k.Not refl refl) reads-pred)
 
-  reads-conjunction : Countable (conjunction room inner) and_sight (read_conjunction room read)
+  pub reads-conjunction : Countable (conjunction room inner) and_sight (read_conjunction room read)
   unfolding conjunction read_conjunction same_class
   reads-conjunction =
       in_chain and_node (negation room inner) (past (of k.And) (negation room inner)) not_sight (past_sight (is k.And) not_sight) and_sight (read_negation room read) (read_counted_past (of k.And) (read_negation room read)) refl refl refl refl
@@ -323,7 +323,7 @@ module _ (room : Room) (inner : Counting Expr) (read : Reader Expr) (g : Countab
 
 -- ---- depth
 
-reads-too_deep : Countable (plain (fault too_deep (begins begins_expression))) or_sight (read_plain {A = Expr} (read_fault too_deep (begins begins_expression)))
+pub reads-too_deep : Countable (plain (fault too_deep (begins begins_expression))) or_sight (read_plain {A = Expr} (read_fault too_deep (begins begins_expression)))
 unfolding same_class
 reads-too_deep =
     written (plain (fault too_deep (begins begins_expression))) (one begins_expression) or_sight (read_plain (read_fault too_deep (begins begins_expression))) refl

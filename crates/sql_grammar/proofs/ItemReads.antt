@@ -58,7 +58,7 @@ reads-as_name =
 abbrev row_sight : Sight Class
 row_sight = seen begins_expression (λ c. is k.As c || or_more c)
 
-reads-row : Countable row row_sight read_row
+pub reads-row : Countable row row_sight read_row
 unfolding read_row same_class
 reads-row =
     as_given (λ p. record { expr = p.0; name = p.1 }) (both (expression 64) as_name) row_sight (read_both (read_expression 64) read_as_name)
@@ -200,7 +200,7 @@ mixed_all = refl
 seen_mixed : (c : Class) → is_some (mixed_class c) ≡ begins_expression c
 seen_mixed c = same_truth (is_some (mixed_class c)) (begins_expression c) (every (λ d. agree (is_some (mixed_class d)) (begins_expression d)) mixed_all c)
 
-abbrev later_first : Class → Bool
+abbrev pub later_first : Class → Bool
 later_first c = is_agg c || begins_expression c
 
 over_all : list_all (λ c. agree (is_some (over_total c)) (later_first c)) all_classes ≡ true
@@ -237,7 +237,7 @@ reads-first_total : CountedReads first_total (on total_sight) read_first_total
 unfolding read_first_total
 reads-first_total = reads-item (λ s. over_first (agg_form (class s))) (total any_agg) (on total_sight) (read_total read_any_agg) reads-first refl (λ s. seen_over_first (agg_form (class s)))
 
-reads-later_total : CountedReads (past (of k.Comma) later_total) (on (past_sight (is k.Comma) later_sight)) (read_counted_past (of k.Comma) read_later_total)
+pub reads-later_total : CountedReads (past (of k.Comma) later_total) (on (past_sight (is k.Comma) later_sight)) (read_counted_past (of k.Comma) read_later_total)
 unfolding read_later_total
 reads-later_total =
     reads-counted_past (of k.Comma) later_total (on later_sight) read_later_total

@@ -62,7 +62,7 @@ module _ (room : Room) (inner : Counting Expr) (read : Reader Expr) (g : Countab
   abbrev arm_sight : Sight Class
   arm_sight = seen (is k.When) or_sight.more
 
-  reads-arm : Countable (arm room inner) arm_sight (read_arm room read)
+  pub reads-arm : Countable (arm room inner) arm_sight (read_arm room read)
   unfolding read_arm same_class
   reads-arm =
       behind (is k.When) (given (λ p. roll-Arm (record { when = p.0; then = p.1 })) (both inner (past (of k.Then) inner))) or_sight (read_given (λ p. roll-Arm (record { when = p.0; then = p.1 })) (read_both read (read_counted_past (of k.Then) read)))

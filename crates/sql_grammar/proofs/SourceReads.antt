@@ -97,13 +97,13 @@ reads-factored_step =
     (behind (is k.LeftBracket) in_brackets_step (one bracket_first) (λ m. read_either (of k.Star) (read_all_rest m) (read_element_rest m))
     (one_or_other all_rest element_rest (one (is k.Star)) (one (is k.WholeNumber)) (one bracket_first) read_all_rest read_element_rest refl refl refl refl reads-all_rest reads-element_rest))
 
-reads-step : Countable source_step (one is_step) read_step
+pub reads-step : Countable source_step (one is_step) read_step
 reads-step n = reads-same (factored_step n) (source_step n) (same_sym (source_step n) (factored_step n) (same_step n)) (on (one is_step)) (read_step n) (reads-factored_step n)
 
 over_step_all : list_all (λ c. agree (is_some (over_step c)) (is_step c)) all_classes ≡ true
 over_step_all = refl
 
-seen_over_step : (c : Class) → is_some (over_step c) ≡ is_step c
+pub seen_over_step : (c : Class) → is_some (over_step c) ≡ is_step c
 seen_over_step c = same_truth (is_some (over_step c)) (is_step c) (every (λ d. agree (is_some (over_step d)) (is_step d)) over_step_all c)
 
 abbrev steps_sight : Sight Class

@@ -1,3 +1,0 @@
-pub mod CountedSteps
-pub mod PathSteps
-pub mod TokenSteps

@@ -1,0 +1,10 @@
+pub mod ArgumentSteps
+pub mod ChainSteps
+pub mod InsideSteps
+pub mod ItemSteps
+pub mod ListSteps
+pub mod MemberSteps
+pub mod NodeSteps
+pub mod PrimarySteps
+pub mod TailSteps
+pub mod WordSteps

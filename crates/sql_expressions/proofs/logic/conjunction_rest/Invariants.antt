@@ -1,0 +1,16 @@
+-- What the loop over the parts has read.
+use Rattle.std.proofs.Common.{◌≡◌, [], length}
+use Rattle.sql_tokens.specs.declared.class.Class.TheVariants as k
+use Rattle.grammar_rules.specs.CountedReaders.{read_counted_past, read_links}
+use Rattle.sql_grammar.specs.Marks.{of}
+use Rattle.sql_grammar.specs.Expressions.{room_of, and_node}
+use Rattle.sql_grammar.specs.Readers.{read_negation}
+use Rattle.sql_leaves.specs.Parsing.{read_inside}
+use Rattle.sql_expressions.proofs.ChainSteps.{conjunction_left}
+use Rattle.sql_expressions.proofs.logic.conjunction_rest.Given as goal
+
+abbrev pub invariant-parts : goal.invariant-parts
+invariant-parts g l = read_links (and_node l.fn.first) (of k.And) (read_counted_past (of k.And) (read_negation (room_of l.fn.nest.depth) (read_inside l.fn.nest.depth))) [] l.fn.primaries l.fn.tokens.symbols ≡ conjunction_left l.fn.nest.depth l.fn.first l.rest l.primaries l.tokens.symbols
+
+abbrev pub decreases-parts : goal.decreases-parts
+decreases-parts g l = length l.tokens.symbols

@@ -1,0 +1,37 @@
+-- The loop over the members follows the reader.
+use Rattle.std.proofs.Common.{sym, ◌∙◌}
+use Rattle.std.proofs.lemmas.Result.{err_from_is_err_and}
+use Rattle.sql_tokens.specs.declared.class.Class.TheVariants as k
+use Rattle.sql_grammar.specs.Marks.{of, class}
+use Rattle.sql_grammar.specs.Expressions.{room_of, over_class}
+use Rattle.grammar_rules.specs.CountedReaders.{read_counted_past, read_item}
+use Rattle.sql_leaves.specs.Parsing.{read_inside}
+use Rattle.sql_expressions.proofs.MemberSteps.{limited_less}
+use Rattle.sql_leaves.specs.Parsing.{fault_of}
+use Rattle.sql_expressions.proofs.ListSteps.{limited_begin, limited_none, limited_on, limited_stop, limited_fail}
+use Rattle.sql_expressions.proofs.predicates.members.Goals as goal
+
+pub returns-in_err-first : goal.returns-in_err-first
+returns-in_err-first g c =
+    let p = err_from_is_err_and c.from_residual.result c.from_residual.ensures.1 in
+    rw (p.1, p.2) (λ m. limited_none (of k.Comma) (read_item (λ s. over_class (room_of c.args.nest.now.depth).deeper (class s)) (read_inside c.args.nest.now.depth)) (read_counted_past (of k.Comma) (read_item (λ s. over_class (room_of c.args.nest.now.depth).deeper (class s)) (read_inside c.args.nest.now.depth))) 1000 c.args.primaries.now c.args.tokens.now.symbols (fault_of c.in_err-first.field-0.0) c.member.new.tokens.symbols (c.in_err-first.ensures m))
+
+pub members-init : goal.members-init
+members-init g c =
+    rw (c.in_ok-push.ensures.ok, c.into_inner.ensures, c.new-all.ensures) (limited_begin (of k.Comma) (read_item (λ s. over_class (room_of c.args.nest.now.depth).deeper (class s)) (read_inside c.args.nest.now.depth)) (read_counted_past (of k.Comma) (read_item (λ s. over_class (room_of c.args.nest.now.depth).deeper (class s)) (read_inside c.args.nest.now.depth))) 1000 c.args.primaries.now c.args.tokens.now.symbols c.in_ok-first.first c.member.new.left c.member.new.primaries c.member.new.tokens.symbols c.in_ok-first.ensures)
+
+pub returns-in_err-next : goal.returns-in_err-next
+returns-in_err-next g c =
+    let p = err_from_is_err_and c.from_residual-in_err-next.result c.from_residual-in_err-next.ensures.1 in
+    rw (p.1, p.2) (λ m. c.members.invariant ∙ limited_fail (of k.Comma) (read_counted_past (of k.Comma) (read_item (λ s. over_class (room_of c.args.nest.now.depth).deeper (class s)) (read_inside c.args.nest.now.depth))) (limited_less c.args.nest.now.depth (room_of c.args.nest.now.depth).deeper) c.members.all c.members.left c.members.primaries c.members.tokens.symbols (fault_of c.in_err-next.field-0.0) c.next_member.new.tokens.symbols (sym c.sees.ensures ∙ c.members-test.true) (c.in_err-next.ensures m))
+
+pub members-smaller : goal.members-smaller
+members-smaller g c = (limited_less c.args.nest.now.depth (room_of c.args.nest.now.depth).deeper) (c.members.left, c.members.primaries) c.members.tokens.symbols (c.in_ok-next.next, (c.next_member.new.left, c.next_member.new.primaries)) c.next_member.new.tokens.symbols c.in_ok-next.ensures
+
+pub members-preserved : goal.members-preserved
+members-preserved g c =
+    rw (c.in_ok-push-2.ensures.ok, c.into_inner-in-members.ensures)
+    (c.members.invariant ∙ limited_on (of k.Comma) (read_counted_past (of k.Comma) (read_item (λ s. over_class (room_of c.args.nest.now.depth).deeper (class s)) (read_inside c.args.nest.now.depth))) (limited_less c.args.nest.now.depth (room_of c.args.nest.now.depth).deeper) c.members.all c.members.left c.members.primaries c.members.tokens.symbols c.in_ok-next.next c.next_member.new.left c.next_member.new.primaries c.next_member.new.tokens.symbols (sym c.sees.ensures ∙ c.members-test.true) c.in_ok-next.ensures)
+
+pub returns : goal.returns
+returns g c = c.members.invariant ∙ limited_stop (of k.Comma) (read_counted_past (of k.Comma) (read_item (λ s. over_class (room_of c.args.nest.now.depth).deeper (class s)) (read_inside c.args.nest.now.depth))) (limited_less c.args.nest.now.depth (room_of c.args.nest.now.depth).deeper) c.members.all c.members.left c.members.primaries c.members.tokens.symbols (sym c.sees.ensures ∙ c.members-test.false)
