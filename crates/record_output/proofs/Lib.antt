@@ -1,0 +1,9 @@
+pub mod Appended
+pub mod Escaping
+pub mod Nodes
+pub mod Quoting
+pub mod ReadBack
+pub mod Recording
+pub mod Slices
+pub mod Spelling
+pub mod Whole

@@ -1,0 +1,11 @@
+-- What was added, then the rest with its escapes, is the whole text with its escapes.
+use Rattle.std.specs.Prelude.{length}
+use Rattle.record_output.specs.Appending.{Adds}
+use Rattle.record_output.specs.JsonStrings.{spelled_text}
+use Rattle.record_output.proofs.json.push_inside.Given as goal
+
+abbrev pub invariant-parts : goal.invariant-parts
+invariant-parts l = Adds l.fn.out l.out (spelled_text l.fn.text) (spelled_text l.rest)
+
+abbrev pub decreases-parts : goal.decreases-parts
+decreases-parts l = length l.rest
