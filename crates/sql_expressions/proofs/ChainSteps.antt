@@ -20,7 +20,7 @@ use Rattle.sql_grammar.proofs.ExpressionReads.{reads-prod_part, reads-sum_part, 
 use Rattle.sql_leaves.specs.Parsing.{read_inside}
 use Rattle.sql_expressions.proofs.InsideSteps.{inside_rule, reads_inside}
 
--- ---- prods
+-- ---- products
 
 module _ (depth : ℕ) where
   pub prod_left : Expr → List ProdPart → ℕ → List Symbol → Outcome Symbol Fault (Expr × ℕ)
@@ -29,10 +29,6 @@ module _ (depth : ℕ) where
   prod_less : CountedShrinks (read_prod_part (room_of depth) (read_inside depth))
   unfolding same_class
   prod_less = counted_shrinks (prod_part (room_of depth) (inside_rule depth)) (on (seen is_prod_op is_step)) (read_prod_part (room_of depth) (read_inside depth)) (reads-prod_part (room_of depth) (inside_rule depth) (read_inside depth) (reads_inside depth)) refl
-
-  pub prod_begin : (n : ℕ) (ts : List Symbol) (a : Expr) (m : ℕ) (left : List Symbol) → (read_unary (room_of depth) (read_inside depth)) n ts ≡ found (a, m) left → read_prod (room_of depth) (read_inside depth) n ts ≡ prod_left a [] m left
-  unfolding prod_left read_prod
-  prod_begin n ts a m left h = chain_begin prod_node (begins is_prod_op) (read_unary (room_of depth) (read_inside depth)) (read_prod_part (room_of depth) (read_inside depth)) n ts a m left h
 
   pub prod_from : (n : ℕ) (ts : List Symbol) (a : Expr) (m : ℕ) (left : List Symbol) → (read_unary (room_of depth) (read_inside depth)) n ts ≡ found (a, m) left → read_prod (room_of depth) (read_inside depth) n ts ≡ read_links (prod_node a) (begins is_prod_op) (read_prod_part (room_of depth) (read_inside depth)) [] m left
   unfolding read_prod
@@ -72,10 +68,6 @@ module _ (depth : ℕ) where
   unfolding same_class
   sum_less = counted_shrinks (sum_part (room_of depth) (inside_rule depth)) (on (seen is_sum_op prod_more)) (read_sum_part (room_of depth) (read_inside depth)) (reads-sum_part (room_of depth) (inside_rule depth) (read_inside depth) (reads_inside depth)) refl
 
-  pub sum_begin : (n : ℕ) (ts : List Symbol) (a : Expr) (m : ℕ) (left : List Symbol) → (read_prod (room_of depth) (read_inside depth)) n ts ≡ found (a, m) left → read_sum (room_of depth) (read_inside depth) n ts ≡ sum_left a [] m left
-  unfolding sum_left read_sum
-  sum_begin n ts a m left h = chain_begin sum_node (begins is_sum_op) (read_prod (room_of depth) (read_inside depth)) (read_sum_part (room_of depth) (read_inside depth)) n ts a m left h
-
   pub sum_from : (n : ℕ) (ts : List Symbol) (a : Expr) (m : ℕ) (left : List Symbol) → (read_prod (room_of depth) (read_inside depth)) n ts ≡ found (a, m) left → read_sum (room_of depth) (read_inside depth) n ts ≡ read_links (sum_node a) (begins is_sum_op) (read_sum_part (room_of depth) (read_inside depth)) [] m left
   unfolding read_sum
   sum_from n ts a m left h = chain_begin sum_node (begins is_sum_op) (read_prod (room_of depth) (read_inside depth)) (read_sum_part (room_of depth) (read_inside depth)) n ts a m left h
@@ -114,10 +106,6 @@ module _ (depth : ℕ) where
   unfolding same_class
   conjunction_less = counted_shrinks (past (of k.And) (negation (room_of depth) (inside_rule depth))) (on (past_sight (is k.And) not_sight)) (read_counted_past (of k.And) (read_negation (room_of depth) (read_inside depth))) (behind (is k.And) (negation (room_of depth) (inside_rule depth)) not_sight (read_negation (room_of depth) (read_inside depth)) (reads-negation (room_of depth) (inside_rule depth) (read_inside depth) (reads_inside depth))) refl
 
-  pub conjunction_begin : (n : ℕ) (ts : List Symbol) (a : Expr) (m : ℕ) (left : List Symbol) → (read_negation (room_of depth) (read_inside depth)) n ts ≡ found (a, m) left → read_conjunction (room_of depth) (read_inside depth) n ts ≡ conjunction_left a [] m left
-  unfolding conjunction_left read_conjunction
-  conjunction_begin n ts a m left h = chain_begin and_node (of k.And) (read_negation (room_of depth) (read_inside depth)) (read_counted_past (of k.And) (read_negation (room_of depth) (read_inside depth))) n ts a m left h
-
   pub conjunction_from : (n : ℕ) (ts : List Symbol) (a : Expr) (m : ℕ) (left : List Symbol) → (read_negation (room_of depth) (read_inside depth)) n ts ≡ found (a, m) left → read_conjunction (room_of depth) (read_inside depth) n ts ≡ read_links (and_node a) (of k.And) (read_counted_past (of k.And) (read_negation (room_of depth) (read_inside depth))) [] m left
   unfolding read_conjunction
   conjunction_from n ts a m left h = chain_begin and_node (of k.And) (read_negation (room_of depth) (read_inside depth)) (read_counted_past (of k.And) (read_negation (room_of depth) (read_inside depth))) n ts a m left h
@@ -155,10 +143,6 @@ module _ (depth : ℕ) where
   disjunction_less : CountedShrinks (read_counted_past (of k.Or) (read_conjunction (room_of depth) (read_inside depth)))
   unfolding same_class
   disjunction_less = counted_shrinks (past (of k.Or) (conjunction (room_of depth) (inside_rule depth))) (on (past_sight (is k.Or) and_sight)) (read_counted_past (of k.Or) (read_conjunction (room_of depth) (read_inside depth))) (behind (is k.Or) (conjunction (room_of depth) (inside_rule depth)) and_sight (read_conjunction (room_of depth) (read_inside depth)) (reads-conjunction (room_of depth) (inside_rule depth) (read_inside depth) (reads_inside depth))) refl
-
-  pub disjunction_begin : (n : ℕ) (ts : List Symbol) (a : Expr) (m : ℕ) (left : List Symbol) → (read_conjunction (room_of depth) (read_inside depth)) n ts ≡ found (a, m) left → read_disjunction (room_of depth) (read_inside depth) n ts ≡ disjunction_left a [] m left
-  unfolding disjunction_left read_disjunction
-  disjunction_begin n ts a m left h = chain_begin or_node (of k.Or) (read_conjunction (room_of depth) (read_inside depth)) (read_counted_past (of k.Or) (read_conjunction (room_of depth) (read_inside depth))) n ts a m left h
 
   pub disjunction_from : (n : ℕ) (ts : List Symbol) (a : Expr) (m : ℕ) (left : List Symbol) → (read_conjunction (room_of depth) (read_inside depth)) n ts ≡ found (a, m) left → read_disjunction (room_of depth) (read_inside depth) n ts ≡ read_links (or_node a) (of k.Or) (read_counted_past (of k.Or) (read_conjunction (room_of depth) (read_inside depth))) [] m left
   unfolding read_disjunction
