@@ -21,10 +21,17 @@ pub(crate) fn tell_asked(alloc: Global, row: &Row) -> Result<String, Fail> {
     Ok(text)
 }
 
-/// An object: how the reply to a query over all of it ends, its length and its CRC.
+/// A text, how many times it makes the object, and the parts of a body: how the reply ends, its length and its CRC.
 pub(crate) fn tell_job(alloc: Global, row: &Row) -> Result<String, Fail> {
     let name = String::from_str(alloc, "o")?;
-    let bytes = Vec::from_slice(alloc, row.bytes(0)?)?;
+    let mut bytes = Vec::new(alloc);
+    for _ in 0..row.number(1)? {
+        bytes.extend_from_slice(row.bytes(0)?)?;
+    }
+    let body = row.joined(alloc, 2)?;
+    let Asked::Asks(request) = prepare(alloc, body.as_slice())? else {
+        return Err(Fail::new("the body is refused"));
+    };
     let objects = Vec::from_array(alloc, [MemObject { name, bytes }])?;
     let mut store = MemStore::new(objects, Vec::new(alloc), Vec::new(alloc));
     let Ok(Found::Size(size)) = store.open("o") else {
@@ -33,7 +40,7 @@ pub(crate) fn tell_job(alloc: Global, row: &Row) -> Result<String, Fail> {
     let limits = Limits { longest: 1_048_576 };
     let mut sink = MemSink::new(Vec::new(alloc), Vec::new(alloc), Vec::new(alloc));
     let mut out = Plain { sink: &mut sink };
-    let ended = run_job(alloc, limits, &mut store, size, &mut out);
+    let ended = run_job(alloc, limits, &request, &mut store, size, &mut out);
     tell_ended(alloc, ended, sink.written())
 }
 

@@ -1,7 +1,6 @@
 -- How many records an object has at most, how long they and their outputs are, and where they start.
-use Rattle.std.proofs.Common.{◌≡◌, ℕ, zero, suc, ◌+◌, ◌*◌, ◌^◌, ◌-◌, ◌<◌, ◌≤◌, Bool, true, false, List, [], ◌∷◌, ◌++◌, length, map, take, drop, Option, None, Some, Result, Ok, Err, refl, sym, ap, ◌∙◌, subst, arith, append-nil, length-append, length-drop, if◌then◌else◌, ◌==◌, cond}
+use Rattle.std.proofs.Common.{◌≡◌, ℕ, zero, suc, ◌+◌, ◌*◌, ◌^◌, ◌-◌, ◌<◌, ◌≤◌, Bool, true, false, List, [], ◌∷◌, ◌++◌, length, map, take, drop, Option, None, Some, Err, refl, sym, ap, ◌∙◌, subst, arith, append-nil, length-append, length-drop, if◌then◌else◌, ◌==◌, cond}
 use Rattle.std.specs.Prelude.{filter, bytes_eq, nat_le, take_while}
-use Rattle.std.specs.List.{flat_map}
 use Rattle.std.proofs.lemmas.List.{length-map, map-append}
 use Rattle.std.proofs.lemmas.List.Elements.{filter-append}
 use Rattle.std.proofs.lemmas.List.Sums.{sum_by-append, take_while-cons}
@@ -13,22 +12,31 @@ use Rattle.line_window.specs.Sliding.{View, left}
 use Rattle.std.proofs.Math.Nat.{suc-mul, mul-le-mul_right}
 use Rattle.select_reply.specs.declared.code.Code.{Code}
 use Rattle.select_reply.specs.declared.code.Code.TheVariants.{OverMaxRecordSize}
-use Rattle.select_reply.specs.Yields.{Yielded, bytes_of, output, total_len}
+use Rattle.std.specs.Io.KnownBytes.{Appends}
+use Rattle.select_reply.specs.Yields.{Yielded, bytes_of, has_fault, output, total_len}
 use Rattle.select_reply.specs.Answers.{processed}
 use Rattle.select_reply.specs.Begun.{Begun}
 use Rattle.select_reply.specs.Events.{wrapped_frames, whole_events}
 use Rattle.select_reply.specs.Replies.{CountsFit, EachBegins, EachExtends}
-use Rattle.select_engine.specs.Records.{Record, record_of, is_record, records_of, is_too_long, content_fault, unless_faulty, delimiter}
+use Rattle.select_engine.specs.Records.{record_of, is_record, records_of, is_too_long, content_fault, unless_faulty, delimiter}
 use Rattle.select_engine.specs.RecordYields.{gives_of, yielded_of, yields_of}
 use Rattle.select_engine.specs.Jobs.{whole_frames, WroteEarly}
-use Rattle.select_engine.specs.Streaming.{Streamed}
+use Rattle.select_engine.specs.Streaming.{gives_all, Streamed}
+use Rattle.select_engine.specs.LineTurns.{asking}
 use Rattle.select_engine.proofs.Framing.{wrapped_frames-append}
+use Rattle.select_engine.proofs.StreamLaws.{EachFits}
 
 pub yields_of-append : (longest : ℕ) (xs ys : List Cut) → yields_of longest (xs ++ ys) ≡ yields_of longest xs ++ yields_of longest ys
 yields_of-append longest xs ys =
     ap (λ l. map yielded_of (map (record_of longest) l)) (filter-append (is_record longest) xs ys)
     ∙ ap (map yielded_of) (map-append (record_of longest) (filter (is_record longest) xs) (filter (is_record longest) ys))
     ∙ map-append yielded_of (records_of longest xs) (records_of longest ys)
+
+-- what is asked of the cuts is what their records yield
+pub gives_all-is : (wrap : List ℕ → List ℕ) (progress : Bool) (longest : ℕ) (cuts : List Cut) → gives_all (asking wrap progress longest) cuts ≡ yields_of longest cuts
+gives_all-is wrap progress longest [] = refl
+gives_all-is wrap progress longest (cut ∷ cuts) =
+    ap (λ l. yields_of longest (cut ∷ []) ++ l) (gives_all-is wrap progress longest cuts) ∙ sym (yields_of-append longest (cut ∷ []) cuts)
 
 total_len-append : (xs ys : List Yielded) → total_len (xs ++ ys) ≡ total_len xs + total_len ys
 total_len-append xs ys = sum_by-append (λ (y : Yielded). y.len) xs ys
@@ -197,28 +205,29 @@ late longest taken n [] far from = tt
 late longest taken n (y ∷ ys) far from = lt-leb (y.start + y.len + (2 * longest + 5 * 65536)) taken (omega arith)
 
 -- the whole pieces of the early records' output have been written
-pub wrote_early : EachBegins → EachExtends → (wrap : List ℕ → List ℕ) (longest taken : ℕ) (object : List ℕ) (places : List Cut) (v : View) (begun : Begun) (before mid : Option (List ℕ))
-    → Streamed wrap longest object places v begun before mid → v.delimiter ≡ delimiter → taken < v.place + (2 * longest + 5 * 65536)
-    → WroteEarly wrap longest taken (processed None (yields_of longest places)) before mid
-wrote_early begins extends wrap longest taken object places v begun before mid s byte far =
+pub wrote_early : EachBegins → EachExtends → (wrap : List ℕ → List ℕ) (progress : Bool) (longest upto : ℕ) (object : List ℕ) (places : List Cut) (v : View) (begun : Begun) (before mid : Option (List ℕ))
+    → Streamed (asking wrap progress longest) object places v begun before mid → v.delimiter ≡ delimiter → upto < v.place + (2 * longest + 5 * 65536)
+    → WroteEarly wrap progress longest upto (processed None (yields_of longest places)) before mid
+wrote_early begins extends wrap progress longest upto object places v begun before mid s byte far =
     let ys = yields_of longest s.done in
     let later = yields_of longest (left object v) in
-    let test : Yielded → Bool = λ y. nat_le (y.start + y.len + (2 * longest + 5 * 65536)) taken in
+    let test : Yielded → Bool = λ y. nat_le (y.start + y.len + (2 * longest + 5 * 65536)) upto in
     let from : HeadFrom v.place later =
     subst (λ d. HeadFrom v.place (yields_of longest (cuts d object v.place (v.stop - v.place)))) (sym byte)
     (head_from longest object v.place (v.stop - v.place)) in
-    let on = begins false None ys later s.unanswered in
+    let done : gives_all (asking wrap progress longest) s.done ≡ ys = gives_all-is wrap progress longest s.done in
+    let on = begins progress None ys later (ap has_fault (sym done) ∙ s.unanswered) in
     let all : processed None (yields_of longest places) ≡ ys ++ on.answered =
     ap (processed None) (ap (yields_of longest) s.split ∙ yields_of-append longest s.done (left object v)) ∙ on.goes_on in
-    let front = passing-front test ys on.answered (late longest taken v.place on.answered far (front-from v.place later on.answered on.unanswered on.split from)) in
+    let front = passing-front test ys on.answered (late longest upto v.place on.answered far (front-from v.place later on.answered on.unanswered on.split from)) in
     let passing = take_while test (ys ++ on.answered) in
-    let more = extends false passing front.0 in
-    let pieces : whole_frames wrap ys ≡ whole_frames wrap passing ++ wrapped_frames wrap more.more =
-    ap (whole_frames wrap) front.1 ∙ ap (wrapped_frames wrap) more.events ∙ wrapped_frames-append wrap (whole_events false passing) more.more in
-    subst (λ (l : List Yielded). WroteEarly wrap longest taken l before mid) (sym all)
+    let more = extends progress passing front.0 in
+    let pieces : whole_frames wrap progress ys ≡ whole_frames wrap progress passing ++ wrapped_frames wrap more.more =
+    ap (whole_frames wrap progress) front.1 ∙ ap (wrapped_frames wrap) more.events ∙ wrapped_frames-append wrap (whole_events progress passing) more.more in
+    subst (λ (l : List Yielded). WroteEarly wrap progress longest upto l before mid) (sym all)
     (record {
-      bytes = whole_frames wrap ys;
-      written = s.written;
+      bytes = whole_frames wrap progress ys;
+      written = subst (λ (l : List Yielded). Appends before mid (whole_frames wrap progress l)) done s.written;
       front = record { rest = wrapped_frames wrap more.more; joined = pieces };
     })
 
@@ -227,3 +236,10 @@ pub length-left : (object : List ℕ) (v : View) → v.stop ≤ v.size → v.siz
 length-left object v within small =
     let places = starts v.delimiter object v.place (v.stop - v.place) in
     omega (arith, length-map places (cut_at v.delimiter object), length-starts v.delimiter object v.place (v.stop - v.place))
+
+-- what is asked of the lines that a window has left fits the counts
+pub each-fits : (wrap : List ℕ → List ℕ) (progress : Bool) (longest : ℕ) (object : List ℕ) (v : View) → v.stop ≤ v.size → v.size < 2 ^ 64 → length object < 2 ^ 64
+    → EachFits (asking wrap progress longest) (left object v)
+each-fits wrap progress longest object v within small short = λ done later split.
+    subst CountsFit (sym (gives_all-is wrap progress longest done))
+    (counts-fit longest object (left object v) done later split (within-left object v) (length-left object v within small) short)

@@ -1,5 +1,12 @@
 mod BoundLaws
 mod Contents
+mod EarlyLaws
 mod Framing
+mod JobLaws
+mod LineLaws
+mod LineStreams
+mod OneAsked
+mod SelectedLaws
 mod StreamLaws
+mod TilingLaws
 mod WindowSteps

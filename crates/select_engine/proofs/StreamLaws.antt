@@ -1,173 +1,129 @@
--- The reply while the lines of a window are answered.
-use Rattle.std.proofs.Common.{◌≡◌, ℕ, ◌^◌, ◌<◌, Bool, true, false, List, [], ◌∷◌, ◌++◌, length, Option, None, Some, Ok, Err, refl, sym, ap, ◌∙◌, subst, append_assoc, append-nil, if◌then◌else◌, not, ◌||◌}
-use Rattle.std.proofs.lemmas.Bool.{le-ltb, lt-ltb}
-use Rattle.std.proofs.lemmas.List.Folds.{list_any-append}
+-- The reply while the cuts of a window are answered.
+use Rattle.std.proofs.Common.{◌≡◌, ℕ, ◌-◌, Bool, true, false, List, [], ◌∷◌, ◌++◌, Option, None, Some, refl, sym, ap, ◌∙◌, subst, arith, append_assoc, append-nil}
+use Rattle.std.proofs.lemmas.Grind.{flat_map-append}
 use Rattle.std.specs.Io.KnownBytes.{Appends}
 use Rattle.std.proofs.KnownBytes.{Appends-trans, Appends-nil}
 use Rattle.select_ports.specs.Streams.{AppendsFront}
 use Rattle.select_ports.proofs.Told.{appends-front-after}
 use Rattle.event_frame.specs.Event.{Event}
-use Rattle.line_window.specs.Cuts.{Cut, content}
+use Rattle.line_window.specs.Cuts.{Cut}
 use Rattle.line_window.specs.Sliding.{View, left, Holds}
-use Rattle.line_window.specs.Answers.{ShowsCut, IsNextCut}
-use Rattle.line_window.specs.declared.line.Line.{Line}
-use Rattle.line_window.specs.declared.line.Line.TheVariants.{At, TooLong, End}
-use Rattle.select_reply.specs.declared.code.Code.{Code}
-use Rattle.select_reply.specs.declared.code.Code.TheVariants.{OverMaxRecordSize}
 use Rattle.select_reply.specs.declared.outcome.Outcome.{Outcome}
 use Rattle.select_reply.specs.declared.outcome.Outcome.TheVariants.{Done, Faulted}
-use Rattle.select_reply.specs.Yields.{Yielded, writes, fails, is_fault, has_fault}
+use Rattle.select_reply.specs.Yields.{Yield, silent, writes, fails, Yielded, is_fault}
 use Rattle.select_reply.specs.Pieces.{whole_pieces, remainder}
 use Rattle.select_reply.specs.Answers.{is_answered, processed}
 use Rattle.select_reply.specs.Events.{answer_events, whole_events, wrapped_frames}
-use Rattle.select_reply.specs.Begun.{Begun, unbegun, begun_counts, is_full, one_less}
-use Rattle.select_reply.specs.Turns.{after_yield, after_output, after_record, yield_events, output_events, record_events, fault_events, end_events, yield_outcome, record_outcome}
+use Rattle.select_reply.specs.Begun.{Begun, unbegun, begun_counts, is_full}
+use Rattle.select_reply.specs.Turns.{after_yield, after_output, after_record, scanned_more, yield_events, output_events, record_events, fault_events, end_events, yield_outcome, output_outcome, record_outcome, outcome_if_full}
 use Rattle.select_reply.specs.Replies.{CountsFit, begun_after, outcome_of, EachStepsOn, EachStepsOut, EachStops, EachBegins}
-use Rattle.select_engine.specs.Records.{Record, record_of, is_record, records_of, is_too_long, is_passed_over, content_fault, unless_faulty}
-use Rattle.select_engine.specs.RecordYields.{gives_of, yielded_of, yields_of}
-use Rattle.select_engine.specs.LineTurns.{Turn, passes, yields, faults, ends, turn_of, content_turn, turn_of_content, turn_events, turn_outcome, after_turn}
 use Rattle.select_engine.specs.Jobs.{answer_frames, whole_frames}
-use Rattle.select_engine.specs.Streaming.{Streamed}
+use Rattle.select_engine.specs.Streaming.{Asking, gives_all, Streamed}
+use Rattle.select_engine.specs.Turns.{Turn, passes, yields, ends, turn_events, turn_outcome, after_turn}
 use Rattle.select_engine.proofs.Framing.{wrapped_frames-append}
-use Rattle.select_engine.proofs.BoundLaws.{Within, yields_of-append, counts-fit}
 
--- what a turn says of the records at the line's start
-abbrev pub Meets : Turn → List Yielded → Type 0
-Meets passes ys = ys ≡ []
-Meets (yields bytes len) ys = (y : Yielded) × (ys ≡ y ∷ []) × (y.gives ≡ writes bytes) × (y.len ≡ len)
-Meets (faults code at) ys = (y : Yielded) × (ys ≡ y ∷ []) × (y.gives ≡ fails code) × (y.start ≡ at)
-Meets ends ys = ⊥
+pub gives-append : (a : Asking) (xs ys : List Cut) → gives_all a (xs ++ ys) ≡ gives_all a xs ++ gives_all a ys
+gives-append a xs ys = flat_map-append a.gives xs ys
 
--- a cut that is a record, and one that is none
-record_here : (longest : ℕ) (cut : Cut) → is_record longest cut ≡ true → yields_of longest (cut ∷ []) ≡ yielded_of (record_of longest cut) ∷ []
-record_here longest cut is = rw is refl
+-- ---- a record, and what a turn says of it
 
-no_record_here : (longest : ℕ) (cut : Cut) → is_record longest cut ≡ false → yields_of longest (cut ∷ []) ≡ []
-no_record_here longest cut is = rw is refl
+-- a record adds what the other does: the length of a faulty one doesn't count
+abbrev pub Acts : Yielded → Yielded → Type 0
+Acts y z = (z.start ≡ y.start) × (z.gives ≡ y.gives) × (is_fault y.gives ≡ false → z.len ≡ y.len)
 
-tested : (longest : ℕ) (cut : Cut) (long passed : Bool) → is_too_long longest cut ≡ long → is_passed_over (content cut) ≡ passed
-    → is_record longest cut ≡ (long || not passed)
-unfolding is_record
-tested longest cut long passed l h = cc
+events_by : (b : Begun) (start other len more : ℕ) (g h : Yield) → other ≡ start → h ≡ g → (is_fault g ≡ false → more ≡ len)
+    → yield_events b other more h ≡ yield_events b start len g
+events_by b start other len more silent h place same length_ = ap (yield_events b other more) same
+events_by b start other len more (writes bytes) h place same length_ =
+    ap (yield_events b other more) same ∙ ap (λ n. output_events b n bytes) (length_ refl)
+events_by b start other len more (fails code) h place same length_ =
+    ap (yield_events b other more) same ∙ ap (fault_events b code) place
 
-row_of : (longest : ℕ) (cut : Cut) (found : Option Code) → is_too_long longest cut ≡ false
-    → content_fault (content cut) ≡ found → (record_of longest cut).row ≡ unless_faulty (content cut) found
-unfolding record_of
-row_of longest cut found short is = rw (short, is) refl
+outcome_by : (b : Begun) (start other len more : ℕ) (g h : Yield) → other ≡ start → h ≡ g → (is_fault g ≡ false → more ≡ len)
+    → yield_outcome b other more h ≡ yield_outcome b start len g
+outcome_by b start other len more silent h place same length_ = ap (yield_outcome b other more) same
+outcome_by b start other len more (writes bytes) h place same length_ =
+    ap (yield_outcome b other more) same ∙ ap (λ n. output_outcome b n bytes) (length_ refl)
+outcome_by b start other len more (fails code) h place same length_ =
+    ap (yield_outcome b other more) same ∙ ap (λ n. Some (Faulted code n)) place
 
-long_row : (longest : ℕ) (cut : Cut) → is_too_long longest cut ≡ true → (record_of longest cut).row ≡ Err OverMaxRecordSize
-unfolding record_of
-long_row longest cut long = rw long refl
+after_by : (b : Begun) (len more : ℕ) (g h : Yield) → h ≡ g → (is_fault g ≡ false → more ≡ len) → after_yield b more h ≡ after_yield b len g
+after_by b len more silent h same length_ = ap (after_yield b more) same ∙ ap (scanned_more b) (length_ refl)
+after_by b len more (writes bytes) h same length_ = ap (after_yield b more) same ∙ ap (λ n. after_output b n bytes) (length_ refl)
+after_by b len more (fails code) h same length_ = ap (after_yield b more) same
 
-len_of : (longest : ℕ) (cut : Cut) → (record_of longest cut).len ≡ cut.whole
-unfolding record_of
-len_of longest cut = refl
+module _ (b : Begun) (y z : Yielded) (acts : Acts y z) where
+  same_events : record_events b z ≡ record_events b y
+  same_events = events_by b y.start z.start y.len z.len y.gives z.gives acts.0 acts.1 acts.2
 
-start_of : (longest : ℕ) (cut : Cut) → (record_of longest cut).start ≡ cut.start
-unfolding record_of
-start_of longest cut = refl
+  same_outcome : record_outcome b z ≡ record_outcome b y
+  same_outcome = outcome_by b y.start z.start y.len z.len y.gives z.gives acts.0 acts.1 acts.2
 
-found_meets : (longest : ℕ) (cut : Cut) (found : Option Code) → is_too_long longest cut ≡ false
-    → is_record longest cut ≡ true → content_fault (content cut) ≡ found
-    → Meets (turn_of_content cut.start (content cut) cut.whole found) (yields_of longest (cut ∷ []))
-found_meets longest cut None short here is =
-    (yielded_of (record_of longest cut), record_here longest cut here, ap gives_of (row_of longest cut None short is), len_of longest cut)
-found_meets longest cut (Some code) short here is =
-    (yielded_of (record_of longest cut), record_here longest cut here, ap gives_of (row_of longest cut (Some code) short is), start_of longest cut)
+  same_after : after_record b z ≡ after_record b y
+  same_after = after_by b y.len z.len y.gives z.gives acts.1 acts.2
 
-content_meets : (longest : ℕ) (cut : Cut) (passed : Bool) → is_too_long longest cut ≡ false → is_passed_over (content cut) ≡ passed
-    → Meets (if passed then passes else turn_of_content cut.start (content cut) cut.whole (content_fault (content cut))) (yields_of longest (cut ∷ []))
-content_meets longest cut true short is = no_record_here longest cut (tested longest cut false true short is)
-content_meets longest cut false short is =
-    found_meets longest cut (content_fault (content cut)) short (tested longest cut false false short is) refl
+-- the turn shows the first of the cuts that were left, behind which these are left
+abbrev pub Shows : Asking → List Cut → List Cut → Turn → Type 0
+Shows a before after passes = (cut : Cut) × (before ≡ cut ∷ after) × (a.gives cut ≡ [])
+Shows a before after (yields y) = (cut : Cut) × (before ≡ cut ∷ after) × (z : Yielded) × (a.gives cut ≡ z ∷ []) × Acts y z
+Shows a before after ends = before ≡ []
 
--- the turn of a line is that of the cut that it shows
-pub line_meets : (longest : ℕ) (cut : Cut) (line : Line) → ShowsCut longest cut line → Meets (turn_of line) (yields_of longest (cut ∷ []))
-line_meets longest cut (At start bytes whole) is =
-    let short : is_too_long longest cut ≡ false = le-ltb longest (length cut.body) is.1.short in
-    let Same : List ℕ → Type 0 = λ l. Meets (content_turn start l whole) (yields_of longest (cut ∷ [])) in
-    let From : ℕ → Type 0 = λ q. Meets (content_turn q (content cut) whole) (yields_of longest (cut ∷ [])) in
-    let Of : ℕ → Type 0 = λ n. Meets (content_turn cut.start (content cut) n) (yields_of longest (cut ∷ [])) in
-    subst Same (sym is.1.bytes) (subst From (sym is.0) (subst Of (sym is.1.whole) (content_meets longest cut (is_passed_over (content cut)) short refl)))
-line_meets longest cut (TooLong start) is =
-    let long : is_too_long longest cut ≡ true = lt-ltb longest (length cut.body) is.1 in
-    let here : is_record longest cut ≡ true = tested longest cut true (is_passed_over (content cut)) long refl in
-    (yielded_of (record_of longest cut), record_here longest cut here, ap gives_of (long_row longest cut long), start_of longest cut ∙ sym is.0)
-line_meets longest cut End is = absurd is
+-- ---- the limit
 
--- ---- one more record
+full_after : (b : Begun) → outcome_if_full b ≡ None → is_full b.left ≡ false
+full_after b none =
+    let P : Bool → Type 0 = λ full. is_full b.left ≡ full → is_full b.left ≡ false in
+    (elim (is_full b.left) as P [ true ↦ λ is. absurd (let some : outcome_if_full b ≡ Some (Done (begun_counts b)) = rw is refl in cc) | false ↦ λ is. is ]) refl
 
--- whether a code stands among records and one more
-fault_with : (ys : List Yielded) (y : Yielded) (b : Bool) → is_answered None ys ≡ false → is_fault y.gives ≡ b → is_answered None (ys ++ y ∷ []) ≡ b
-fault_with ys y b h is = list_any-append (λ (z : Yielded). is_fault z.gives) ys (y ∷ []) ∙ ap (λ c. c || (is_fault y.gives || false)) h ∙ or_false (is_fault y.gives) ∙ is
-  where
-    or_false : (c : Bool) → (c || false) ≡ c
-    or_false true = refl
-    or_false false = refl
+full_by : (b : Begun) (start len : ℕ) (g : Yield) → is_full b.left ≡ false → yield_outcome b start len g ≡ None → is_full (after_yield b len g).left ≡ false
+full_by b start len silent open_ none = open_
+full_by b start len (writes bytes) open_ none = full_after (after_output b len bytes) none
+full_by b start len (fails code) open_ none = absurd (cc)
 
-module _ (longest : ℕ) (done : List Cut) (p : Cut) where
-  -- the records of one more cut
-  yields_more : (ys : List Yielded) → yields_of longest (p ∷ []) ≡ ys → yields_of longest (done ++ p ∷ []) ≡ yields_of longest done ++ ys
-  yields_more ys is = yields_of-append longest done (p ∷ []) ∙ ap (λ l. yields_of longest done ++ l) is
-
--- the events and the state that a record makes, as its turn has them
-module _ (b : Begun) (y : Yielded) where
-  output_here : (bytes : List ℕ) (len : ℕ) → y.gives ≡ writes bytes → y.len ≡ len → record_events b y ≡ output_events b len bytes
-  output_here bytes len is l = ap (yield_events b y.start y.len) is ∙ ap (λ n. output_events b n bytes) l
-
-  after_here : (bytes : List ℕ) (len : ℕ) → y.gives ≡ writes bytes → y.len ≡ len → after_record b y ≡ after_output b len bytes
-  after_here bytes len is l = ap (after_yield b y.len) is ∙ ap (λ n. after_output b n bytes) l
-
-  fault_here : (code : Code) (at : ℕ) → y.gives ≡ fails code → y.start ≡ at → record_events b y ≡ fault_events b code at
-  fault_here code at is a = ap (yield_events b y.start y.len) is ∙ ap (fault_events b code) a
-
-  outcome_here : (code : Code) (at : ℕ) → y.gives ≡ fails code → y.start ≡ at → record_outcome b y ≡ Some (Faulted code at)
-  outcome_here code at is a = ap (yield_outcome b y.start y.len) is ∙ ap (λ n. Some (Faulted code n)) a
-
--- behind a turn the limit stays away
-pub after-left : (b : Begun) (turn : Turn) → b.left ≡ None → (after_turn b turn).left ≡ None
-after-left b passes h = h
-after-left b (yields bytes len) h = ap one_less h
-after-left b (faults code at) h = h
-after-left b ends h = h
-
-pub never_full : (b : Begun) → b.left ≡ None → is_full b.left ≡ false
-never_full b h = ap is_full h
+-- a turn behind which the reply goes on leaves room for output
+pub open_after : (b : Begun) (turn : Turn) → is_full b.left ≡ false → turn_outcome b turn ≡ None → is_full (after_turn b turn).left ≡ false
+open_after b passes open_ none = open_
+open_after b (yields y) open_ none = full_by b y.start y.len y.gives open_ none
+open_after b ends open_ none = absurd (cc)
 
 -- ---- the stream
 
--- records that are those at some starts
-streamed_at : (wrap : List ℕ → List ℕ) (longest : ℕ) (object : List ℕ) (places : List Cut) (v : View) (begun : Begun) (before now : Option (List ℕ)) (done : List Cut) (ys : List Yielded)
-    → yields_of longest done ≡ ys → Holds object v → places ≡ done ++ left object v → is_answered None ys ≡ false → begun ≡ begun_after false None ys
-    → Appends before now (whole_frames wrap ys) → Streamed wrap longest object places v begun before now
-streamed_at wrap longest object places v begun before now done ys is holds split open_ stands written = record {
+-- records that are those of some cuts
+streamed_at : (a : Asking) (object : List ℕ) (cuts : List Cut) (v : View) (begun : Begun) (before now : Option (List ℕ)) (done : List Cut) (ys : List Yielded)
+    → gives_all a done ≡ ys → Holds object v → cuts ≡ done ++ left object v → is_answered a.limit ys ≡ false → begun ≡ begun_after a.progress a.limit ys
+    → Appends before now (whole_frames a.wrap a.progress ys) → Streamed a object cuts v begun before now
+streamed_at a object cuts v begun before now done ys is holds split open_ stands written = record {
   holds = holds;
   done = done;
   split = split;
-  unanswered = ap (is_answered None) is ∙ open_;
-  stands = stands ∙ ap (begun_after false None) (sym is);
-  written = subst (λ (l : List Yielded). Appends before now (whole_frames wrap l)) (sym is) written;
+  unanswered = ap (is_answered a.limit) is ∙ open_;
+  stands = stands ∙ ap (begun_after a.progress a.limit) (sym is);
+  written = subst (λ (l : List Yielded). Appends before now (whole_frames a.wrap a.progress l)) (sym is) written;
 }
 
-empty_stands : unbegun false None ≡ begun_after false None []
+nothing_left : (n : ℕ) → n - 0 ≡ n
+nothing_left n = omega arith
+
+empty_stands : (progress : Bool) (limit : Option ℕ) → unbegun progress limit ≡ begun_after progress limit []
 unfolding whole_pieces remainder
-empty_stands = refl
+empty_stands progress None = refl
+empty_stands progress (Some n) = ap (λ m. unbegun progress (Some m)) (sym (nothing_left n))
 
-empty_frames : (wrap : List ℕ → List ℕ) → [] ≡ whole_frames wrap []
+empty_frames : (wrap : List ℕ → List ℕ) (progress : Bool) → [] ≡ whole_frames wrap progress []
 unfolding whole_pieces
-empty_frames wrap = refl
+empty_frames wrap progress = refl
 
--- before any line
-pub stream_begins : (wrap : List ℕ → List ℕ) (longest : ℕ) (object : List ℕ) (v : View) (before : Option (List ℕ)) → Holds object v
-    → Streamed wrap longest object (left object v) v (unbegun false None) before before
-stream_begins wrap longest object v before holds =
-    streamed_at wrap longest object (left object v) v (unbegun false None) before before [] [] refl holds refl refl empty_stands
-    (subst (Appends before before) (empty_frames wrap) (Appends-nil before))
+-- before any cut
+pub stream_begins : (a : Asking) (object : List ℕ) (v : View) (before : Option (List ℕ)) → is_answered a.limit [] ≡ false → Holds object v
+    → Streamed a object (left object v) v (unbegun a.progress a.limit) before before
+stream_begins a object v before open_ holds =
+    streamed_at a object (left object v) v (unbegun a.progress a.limit) before before [] [] refl holds refl open_ (empty_stands a.progress a.limit)
+    (subst (Appends before before) (empty_frames a.wrap a.progress) (Appends-nil before))
 
 -- a failed read leaves what was answered
-pub stream_stays : (wrap : List ℕ → List ℕ) (longest : ℕ) (object : List ℕ) (places : List Cut) (v w : View) (begun : Begun) (before mid : Option (List ℕ))
-    → Streamed wrap longest object places v begun before mid → Holds object w → left object w ≡ left object v → Streamed wrap longest object places w begun before mid
-stream_stays wrap longest object places v w begun before mid s holds same = record {
+pub stream_stays : (a : Asking) (object : List ℕ) (cuts : List Cut) (v w : View) (begun : Begun) (before mid : Option (List ℕ))
+    → Streamed a object cuts v begun before mid → Holds object w → left object w ≡ left object v → Streamed a object cuts w begun before mid
+stream_stays a object cuts v w begun before mid s holds same = record {
   holds = holds;
   done = s.done;
   split = s.split ∙ ap (λ l. s.done ++ l) (sym same);
@@ -176,244 +132,206 @@ stream_stays wrap longest object places v w begun before mid s holds same = reco
   written = s.written;
 }
 
--- a line is there
-abbrev IsSomeLine : Line → Type 0
-IsSomeLine (At start bytes whole) = Unit {0}
-IsSomeLine (TooLong start) = Unit {0}
-IsSomeLine End = ⊥
+passed_one : (cuts done : List Cut) (p : Cut) (rest later : List Cut) → cuts ≡ done ++ rest → rest ≡ p ∷ later → cuts ≡ (done ++ p ∷ []) ++ later
+passed_one cuts done p rest later split is = split ∙ ap (λ l. done ++ l) is ∙ sym (append_assoc done (p ∷ []) later)
 
-some_line : (line : Line) → (turn_of line ≡ ends → ⊥) → IsSomeLine line
-some_line (At start bytes whole) not_end = tt
-some_line (TooLong start) not_end = tt
-some_line End not_end = absurd (not_end refl)
+-- the records of one more cut
+gives_more : (a : Asking) (done : List Cut) (p : Cut) (ys : List Yielded) → a.gives p ≡ ys → gives_all a (done ++ p ∷ []) ≡ gives_all a done ++ ys
+gives_more a done p ys is = gives-append a done (p ∷ []) ∙ ap (λ l. gives_all a done ++ l) (append-nil (a.gives p) ∙ is)
 
-not_ends : (begun : Begun) (line : Line) → turn_outcome begun (turn_of line) ≡ None → turn_of line ≡ ends → ⊥
-not_ends begun line goes is = let at_end = ap (turn_outcome begun) is in cc
+-- the records of the cuts done fit the counts
+abbrev pub EachFits : Asking → List Cut → Type 0
+EachFits a cuts = (done later : List Cut) → cuts ≡ done ++ later → CountsFit (gives_all a done)
 
--- the cuts from one on are still to come, and the line shows it
-meets_at : (longest : ℕ) (object : List ℕ) (v w : View) (line : Line) → v.longest ≡ longest → IsNextCut v.longest (left object v) (left object w) line
-    → IsSomeLine line → (cut : Cut) × (left object v ≡ cut ∷ left object w) × Meets (turn_of line) (yields_of longest (cut ∷ []))
-meets_at longest object v w (At start bytes whole) l next some =
-    (next.cut, next.first, subst (λ n. Meets (turn_of (At start bytes whole)) (yields_of n (next.cut ∷ []))) l (line_meets v.longest next.cut (At start bytes whole) next.shown))
-meets_at longest object v w (TooLong start) l next some =
-    (next.cut, next.first, subst (λ n. Meets (turn_of (TooLong start)) (yields_of n (next.cut ∷ []))) l (line_meets v.longest next.cut (TooLong start) next.shown))
-meets_at longest object v w End l next some = absurd some
-
-passed_one : (places done : List Cut) (p : Cut) (rest later : List Cut) → places ≡ done ++ rest → rest ≡ p ∷ later → places ≡ (done ++ p ∷ []) ++ later
-passed_one places done p rest later split is = split ∙ ap (λ l. done ++ l) is ∙ sym (append_assoc done (p ∷ []) later)
-
--- a stream of the lines of a range, from its begin to a state, and the bounds that hold of it
+-- a stream of cuts, from its begin to a state
 module _ (on : EachStepsOn) (out : EachStepsOut) (stop : EachStops) (begins : EachBegins)
-    (wrap : List ℕ → List ℕ) (longest : ℕ) (object : List ℕ) (places : List Cut)
-    (within : Within (length object) places) (few : length places < 2 ^ 64) (short : length object < 2 ^ 64) where
+    (a : Asking) (object : List ℕ) (cuts : List Cut) (fits : EachFits a cuts) where
   -- what was written is a front of the whole reply
-  pub stream_front : (v : View) (begun : Begun) (before mid : Option (List ℕ)) → Streamed wrap longest object places v begun before mid
-      → AppendsFront before mid (answer_frames wrap (processed None (yields_of longest places)))
+  pub stream_front : (v : View) (begun : Begun) (before mid : Option (List ℕ)) → Streamed a object cuts v begun before mid
+      → AppendsFront before mid (answer_frames a.wrap a.progress (processed a.limit (gives_all a cuts)))
   stream_front v begun before mid s =
-      let ys = yields_of longest s.done in
-      let b = begins false None ys (yields_of longest (left object v)) s.unanswered in
-      let is : answer_frames wrap (processed None (yields_of longest places)) ≡ whole_frames wrap ys ++ wrapped_frames wrap b.more =
-      ap (λ l. answer_frames wrap (processed None l)) (ap (yields_of longest) s.split ∙ yields_of-append longest s.done (left object v))
-      ∙ ap (wrapped_frames wrap) b.events ∙ wrapped_frames-append wrap (whole_events false ys) b.more in
+      let ys = gives_all a s.done in
+      let b = begins a.progress a.limit ys (gives_all a (left object v)) s.unanswered in
+      let is : answer_frames a.wrap a.progress (processed a.limit (gives_all a cuts)) ≡ whole_frames a.wrap a.progress ys ++ wrapped_frames a.wrap b.more =
+      ap (λ l. answer_frames a.wrap a.progress (processed a.limit l)) (ap (gives_all a) s.split ∙ gives-append a s.done (left object v))
+      ∙ ap (wrapped_frames a.wrap) b.events ∙ wrapped_frames-append a.wrap (whole_events a.progress ys) b.more in
       subst (AppendsFront before mid) (sym is)
-      (record { front = whole_frames wrap ys; is_front = record { rest = wrapped_frames wrap b.more; joined = refl }; appended = s.written })
+      (record { front = whole_frames a.wrap a.progress ys; is_front = record { rest = wrapped_frames a.wrap b.more; joined = refl }; appended = s.written })
 
   -- a front of more events was written, with which the rest of the whole reply begins
-  events_front : (v : View) (begun : Begun) (before mid now : Option (List ℕ)) (es more : List Event) → (s : Streamed wrap longest object places v begun before mid)
-      → answer_events false (processed None (yields_of longest places)) ≡ whole_events false (yields_of longest s.done) ++ (es ++ more)
-      → AppendsFront mid now (wrapped_frames wrap es) → AppendsFront before now (answer_frames wrap (processed None (yields_of longest places)))
+  events_front : (v : View) (begun : Begun) (before mid now : Option (List ℕ)) (es more : List Event) → (s : Streamed a object cuts v begun before mid)
+      → answer_events a.progress (processed a.limit (gives_all a cuts)) ≡ whole_events a.progress (gives_all a s.done) ++ (es ++ more)
+      → AppendsFront mid now (wrapped_frames a.wrap es) → AppendsFront before now (answer_frames a.wrap a.progress (processed a.limit (gives_all a cuts)))
   events_front v begun before mid now es more s is front =
-      let ys = yields_of longest s.done in
-      let joined : answer_frames wrap (processed None (yields_of longest places)) ≡ whole_frames wrap ys ++ (wrapped_frames wrap es ++ wrapped_frames wrap more) =
-      ap (wrapped_frames wrap) is ∙ wrapped_frames-append wrap (whole_events false ys) (es ++ more)
-      ∙ ap (λ l. whole_frames wrap ys ++ l) (wrapped_frames-append wrap es more) in
-      subst (AppendsFront before now) (sym joined) (appends-front-after before mid now _ _ (wrapped_frames wrap more) s.written front)
+      let ys = gives_all a s.done in
+      let joined : answer_frames a.wrap a.progress (processed a.limit (gives_all a cuts))
+      ≡ whole_frames a.wrap a.progress ys ++ (wrapped_frames a.wrap es ++ wrapped_frames a.wrap more) =
+      ap (wrapped_frames a.wrap) is ∙ wrapped_frames-append a.wrap (whole_events a.progress ys) (es ++ more)
+      ∙ ap (λ l. whole_frames a.wrap a.progress ys ++ l) (wrapped_frames-append a.wrap es more) in
+      subst (AppendsFront before now) (sym joined) (appends-front-after before mid now _ _ (wrapped_frames a.wrap more) s.written front)
 
   -- the last events of the whole reply were written
-  events_whole : (v : View) (begun : Begun) (before mid now : Option (List ℕ)) (es : List Event) → (s : Streamed wrap longest object places v begun before mid)
-      → answer_events false (processed None (yields_of longest places)) ≡ whole_events false (yields_of longest s.done) ++ es
-      → Appends mid now (wrapped_frames wrap es) → Appends before now (answer_frames wrap (processed None (yields_of longest places)))
+  events_whole : (v : View) (begun : Begun) (before mid now : Option (List ℕ)) (es : List Event) → (s : Streamed a object cuts v begun before mid)
+      → answer_events a.progress (processed a.limit (gives_all a cuts)) ≡ whole_events a.progress (gives_all a s.done) ++ es
+      → Appends mid now (wrapped_frames a.wrap es) → Appends before now (answer_frames a.wrap a.progress (processed a.limit (gives_all a cuts)))
   events_whole v begun before mid now es s is added =
-      let ys = yields_of longest s.done in
-      let joined : answer_frames wrap (processed None (yields_of longest places)) ≡ whole_frames wrap ys ++ wrapped_frames wrap es =
-      ap (wrapped_frames wrap) is ∙ wrapped_frames-append wrap (whole_events false ys) es in
+      let ys = gives_all a s.done in
+      let joined : answer_frames a.wrap a.progress (processed a.limit (gives_all a cuts)) ≡ whole_frames a.wrap a.progress ys ++ wrapped_frames a.wrap es =
+      ap (wrapped_frames a.wrap) is ∙ wrapped_frames-append a.wrap (whole_events a.progress ys) es in
       subst (Appends before now) (sym joined) (Appends-trans before mid now _ _ s.written added)
 
-  -- the next cut, and what the records of all cuts are then
-  module _ (v w : View) (begun : Begun) (before mid : Option (List ℕ)) (s : Streamed wrap longest object places v begun before mid) (p : Cut) (here : left object v ≡ p ∷ left object w) where
-    split_next : places ≡ (s.done ++ p ∷ []) ++ left object w
-    split_next = passed_one places s.done p (left object v) (left object w) s.split here
+  -- the next cut, whose record yields, and what the records of all cuts are then
+  module _ (v w : View) (begun : Begun) (before mid : Option (List ℕ)) (s : Streamed a object cuts v begun before mid)
+      (p : Cut) (here : left object v ≡ p ∷ left object w) (y z : Yielded) (is : a.gives p ≡ z ∷ []) (acts : Acts y z) where
+    split_next : cuts ≡ (s.done ++ p ∷ []) ++ left object w
+    split_next = passed_one cuts s.done p (left object v) (left object w) s.split here
 
-    fits_next : (y : Yielded) → yields_of longest (p ∷ []) ≡ y ∷ [] → CountsFit (yields_of longest s.done ++ y ∷ [])
-    fits_next y is = subst CountsFit (yields_more longest s.done p (y ∷ []) is) (counts-fit longest object places (s.done ++ p ∷ []) (left object w) split_next within few short)
+    more_next : gives_all a (s.done ++ p ∷ []) ≡ gives_all a s.done ++ z ∷ []
+    more_next = gives_more a s.done p (z ∷ []) is
 
-    all_next : (y : Yielded) → yields_of longest (p ∷ []) ≡ y ∷ [] → yields_of longest places ≡ yields_of longest s.done ++ y ∷ yields_of longest (left object w)
-    all_next y is =
-        ap (yields_of longest) split_next ∙ yields_of-append longest (s.done ++ p ∷ []) (left object w)
-        ∙ ap (λ l. l ++ yields_of longest (left object w)) (yields_more longest s.done p (y ∷ []) is)
-        ∙ append_assoc (yields_of longest s.done) (y ∷ []) (yields_of longest (left object w))
+    fits_next : CountsFit (gives_all a s.done ++ z ∷ [])
+    fits_next = subst CountsFit more_next (fits (s.done ++ p ∷ []) (left object w) split_next)
 
-    -- the whole reply where the record yields output
-    with_output : (bytes : List ℕ) (len : ℕ) (y : Yielded) → yields_of longest (p ∷ []) ≡ y ∷ [] → y.gives ≡ writes bytes → y.len ≡ len
-        → (is_answered None (yields_of longest s.done ++ y ∷ []) ≡ false)
-        × (after_output begun len bytes ≡ begun_after false None (yields_of longest s.done ++ y ∷ []))
-        × (whole_events false (yields_of longest s.done ++ y ∷ []) ≡ whole_events false (yields_of longest s.done) ++ output_events begun len bytes)
-    with_output bytes len y is gives l =
-        let ys = yields_of longest s.done in
-        let open_ = fault_with ys y false s.unanswered (ap is_fault gives) in
-        let step = on false None ys y open_ (fits_next y is) in (
-          open_,
-          ap (λ (b : Begun). after_output b len bytes) s.stands ∙ sym (after_here (begun_after false None ys) y bytes len gives l) ∙ step.after,
-          step.events ∙ ap (λ (e : List Event). whole_events false ys ++ e) (output_here (begun_after false None ys) y bytes len gives l ∙ ap (λ (b : Begun). output_events b len bytes) (sym s.stands)),
+    all_next : gives_all a cuts ≡ gives_all a s.done ++ z ∷ gives_all a (left object w)
+    all_next =
+        ap (gives_all a) split_next ∙ gives-append a (s.done ++ p ∷ []) (left object w)
+        ∙ ap (λ l. l ++ gives_all a (left object w)) more_next
+        ∙ append_assoc (gives_all a s.done) (z ∷ []) (gives_all a (left object w))
+
+    -- the reply goes on behind the record
+    goes_on : is_answered a.limit (gives_all a s.done ++ z ∷ []) ≡ false
+        → (record_outcome begun y ≡ None)
+        × (after_record begun y ≡ begun_after a.progress a.limit (gives_all a s.done ++ z ∷ []))
+        × (whole_events a.progress (gives_all a s.done ++ z ∷ []) ≡ whole_events a.progress (gives_all a s.done) ++ record_events begun y)
+    goes_on open_ =
+        let ys = gives_all a s.done in
+        let b = begun_after a.progress a.limit ys in
+        let step = on a.progress a.limit ys z open_ fits_next in (
+          ap (λ (c : Begun). record_outcome c y) s.stands ∙ sym (same_outcome b y z acts) ∙ step.outcome,
+          ap (λ (c : Begun). after_record c y) s.stands ∙ sym (same_after b y z acts) ∙ step.after,
+          step.events ∙ ap (λ (e : List Event). whole_events a.progress ys ++ e) (same_events b y z acts ∙ ap (λ (c : Begun). record_events c y) (sym s.stands)),
         )
 
-    -- and where it has a code
-    with_fault : (code : Code) (at : ℕ) (y : Yielded) → yields_of longest (p ∷ []) ≡ y ∷ [] → y.gives ≡ fails code → y.start ≡ at
-        → (answer_events false (processed None (yields_of longest places)) ≡ whole_events false (yields_of longest s.done) ++ fault_events begun code at)
-        × (outcome_of (processed None (yields_of longest places)) ≡ Faulted code at)
-    with_fault code at y is gives a =
-        let ys = yields_of longest s.done in
-        let step = out false None ys y (yields_of longest (left object w)) s.unanswered (fault_with ys y true s.unanswered (ap is_fault gives)) (fits_next y is) in
-        let all = all_next y is in
-        let same : Some (outcome_of (processed None (ys ++ y ∷ yields_of longest (left object w)))) ≡ Some (Faulted code at) =
-        sym step.outcome ∙ outcome_here (begun_after false None ys) y code at gives a in (
-          ap (λ l. answer_events false (processed None l)) all ∙ step.events
-              ∙ ap (λ (e : List Event). whole_events false ys ++ e) (fault_here (begun_after false None ys) y code at gives a ∙ ap (λ (b : Begun). fault_events b code at) (sym s.stands)),
-          ap (λ l. outcome_of (processed None l)) all ∙ cc,
+    -- the reply ends with the record
+    ends_with : is_answered a.limit (gives_all a s.done ++ z ∷ []) ≡ true
+        → (record_outcome begun y ≡ Some (outcome_of (processed a.limit (gives_all a cuts))))
+        × (answer_events a.progress (processed a.limit (gives_all a cuts)) ≡ whole_events a.progress (gives_all a s.done) ++ record_events begun y)
+    ends_with full =
+        let ys = gives_all a s.done in
+        let b = begun_after a.progress a.limit ys in
+        let step = out a.progress a.limit ys z (gives_all a (left object w)) s.unanswered full fits_next in (
+          ap (λ (c : Begun). record_outcome c y) s.stands ∙ sym (same_outcome b y z acts) ∙ step.outcome
+              ∙ ap (λ l. Some (outcome_of (processed a.limit l))) (sym all_next),
+          ap (λ l. answer_events a.progress (processed a.limit l)) all_next ∙ step.events
+              ∙ ap (λ (e : List Event). whole_events a.progress ys ++ e) (same_events b y z acts ∙ ap (λ (c : Begun). record_events c y) (sym s.stands)),
         )
 
-    -- a line was answered, and the reply goes on
-    stream_on : (turn : Turn) (now : Option (List ℕ)) → Holds object w → Meets turn (yields_of longest (p ∷ [])) → turn_outcome begun turn ≡ None
-        → Appends mid now (wrapped_frames wrap (turn_events begun turn)) → Streamed wrap longest object places w (after_turn begun turn) before now
-    stream_on passes now holds meets goes added =
-        let ys = yields_of longest s.done in
-        streamed_at wrap longest object places w begun before now (s.done ++ p ∷ []) ys (yields_more longest s.done p [] meets ∙ append-nil ys) holds split_next s.unanswered s.stands
-        (subst (Appends before now) (append-nil (whole_frames wrap ys)) (Appends-trans before mid now _ _ s.written added))
-    stream_on (yields bytes len) now holds meets goes added =
-        let ys = yields_of longest s.done in
-        let y = meets.0 in
-        let more = with_output bytes len y meets.1 meets.2 meets.3 in
-        let frames : whole_frames wrap (ys ++ y ∷ []) ≡ whole_frames wrap ys ++ wrapped_frames wrap (output_events begun len bytes) =
-        ap (wrapped_frames wrap) more.2 ∙ wrapped_frames-append wrap (whole_events false ys) (output_events begun len bytes) in
-        streamed_at wrap longest object places w (after_output begun len bytes) before now (s.done ++ p ∷ []) (ys ++ y ∷ []) (yields_more longest s.done p (y ∷ []) meets.1) holds split_next more.0 more.1
+    record_on : (now : Option (List ℕ)) (full : Bool) → is_answered a.limit (gives_all a s.done ++ z ∷ []) ≡ full → Holds object w → record_outcome begun y ≡ None
+        → Appends mid now (wrapped_frames a.wrap (record_events begun y)) → Streamed a object cuts w (after_record begun y) before now
+    record_on now true full holds none added = absurd (let some = (ends_with full).0 in cc)
+    record_on now false open_ holds none added =
+        let ys = gives_all a s.done in
+        let step = goes_on open_ in
+        let frames : whole_frames a.wrap a.progress (ys ++ z ∷ []) ≡ whole_frames a.wrap a.progress ys ++ wrapped_frames a.wrap (record_events begun y) =
+        ap (wrapped_frames a.wrap) step.2 ∙ wrapped_frames-append a.wrap (whole_events a.progress ys) (record_events begun y) in
+        streamed_at a object cuts w (after_record begun y) before now (s.done ++ p ∷ []) (ys ++ z ∷ []) more_next holds split_next open_ step.1
         (subst (Appends before now) (sym frames) (Appends-trans before mid now _ _ s.written added))
-    stream_on (faults code at) now holds meets goes added = absurd (cc)
-    stream_on ends now holds meets goes added = absurd (cc)
 
-    -- a front of what the line adds was written
-    turn_front : (turn : Turn) (now : Option (List ℕ)) → Meets turn (yields_of longest (p ∷ []))
-        → AppendsFront mid now (wrapped_frames wrap (turn_events begun turn)) → AppendsFront before now (answer_frames wrap (processed None (yields_of longest places)))
-    turn_front passes now meets front =
-        let ys = yields_of longest s.done in
-        let b = begins false None ys (yields_of longest (left object v)) s.unanswered in
-        events_front v begun before mid now [] b.more s
-        (ap (λ l. answer_events false (processed None l)) (ap (yields_of longest) s.split ∙ yields_of-append longest s.done (left object v)) ∙ b.events) front
-    turn_front (yields bytes len) now meets front =
-        let ys = yields_of longest s.done in
-        let y = meets.0 in
-        let later = yields_of longest (left object w) in
-        let more = with_output bytes len y meets.1 meets.2 meets.3 in
-        let b = begins false None (ys ++ y ∷ []) later more.0 in
-        events_front v begun before mid now (output_events begun len bytes) b.more s
-        (ap (λ l. answer_events false (processed None l)) (all_next y meets.1 ∙ sym (append_assoc ys (y ∷ []) later)) ∙ b.events
-        ∙ ap (λ (e : List Event). e ++ b.more) more.2 ∙ append_assoc (whole_events false ys) (output_events begun len bytes) b.more) front
-    turn_front (faults code at) now meets front =
-        let y = meets.0 in
-        let whole = with_fault code at y meets.1 meets.2 meets.3 in
-        events_front v begun before mid now (fault_events begun code at) [] s
-        (whole.0 ∙ ap (λ (e : List Event). whole_events false (yields_of longest s.done) ++ e) (sym (append-nil (fault_events begun code at)))) front
-    turn_front ends now meets front = absurd meets
+    record_ended : (now : Option (List ℕ)) (outcome : Outcome) (full : Bool) → is_answered a.limit (gives_all a s.done ++ z ∷ []) ≡ full
+        → record_outcome begun y ≡ Some outcome → Appends mid now (wrapped_frames a.wrap (record_events begun y))
+        → Appends before now (answer_frames a.wrap a.progress (processed a.limit (gives_all a cuts))) × (outcome ≡ outcome_of (processed a.limit (gives_all a cuts)))
+    record_ended now outcome false open_ some added = absurd (let none = (goes_on open_).0 in cc)
+    record_ended now outcome true full some added =
+        let step = ends_with full in
+        let same : outcome ≡ outcome_of (processed a.limit (gives_all a cuts)) = let both = sym some ∙ step.0 in cc in
+        (events_whole v begun before mid now (record_events begun y) s step.1 added, same)
 
-    -- a line ended the reply
-    turn_ended : (turn : Turn) (now : Option (List ℕ)) (outcome : Outcome) → Meets turn (yields_of longest (p ∷ [])) → begun.left ≡ None
-        → turn_outcome begun turn ≡ Some outcome → Appends mid now (wrapped_frames wrap (turn_events begun turn))
-        → Appends before now (answer_frames wrap (processed None (yields_of longest places))) × (outcome ≡ outcome_of (processed None (yields_of longest places)))
-    turn_ended passes now outcome meets free ended added = absurd (cc)
-    turn_ended (yields bytes len) now outcome meets free ended added =
-        absurd (let on_still : turn_outcome begun (yields bytes len) ≡ None = ap (λ (l : Option ℕ). if is_full (one_less l) then Some (Done (begun_counts (after_output begun len bytes))) else None) free in cc)
-    turn_ended (faults code at) now outcome meets free ended added =
-        let whole = with_fault code at meets.0 meets.1 meets.2 meets.3 in
-        let same : outcome ≡ Faulted code at = cc in
-        (events_whole v begun before mid now (fault_events begun code at) s whole.0 added, same ∙ sym whole.1)
-    turn_ended ends now outcome meets free ended added = absurd meets
+    record_front : (now : Option (List ℕ)) (full : Bool) → is_answered a.limit (gives_all a s.done ++ z ∷ []) ≡ full
+        → AppendsFront mid now (wrapped_frames a.wrap (record_events begun y)) → AppendsFront before now (answer_frames a.wrap a.progress (processed a.limit (gives_all a cuts)))
+    record_front now true full front =
+        let whole = (ends_with full).1 in
+        events_front v begun before mid now (record_events begun y) [] s
+        (whole ∙ ap (λ (e : List Event). whole_events a.progress (gives_all a s.done) ++ e) (sym (append-nil (record_events begun y)))) front
+    record_front now false open_ front =
+        let ys = gives_all a s.done in
+        let later = gives_all a (left object w) in
+        let b = begins a.progress a.limit (ys ++ z ∷ []) later open_ in
+        events_front v begun before mid now (record_events begun y) b.more s
+        (ap (λ l. answer_events a.progress (processed a.limit l)) (all_next ∙ sym (append_assoc ys (z ∷ []) later)) ∙ b.events
+        ∙ ap (λ (e : List Event). e ++ b.more) (goes_on open_).2 ∙ append_assoc (whole_events a.progress ys) (record_events begun y) b.more) front
 
-  -- no line is left
-  stopped : (v : View) (begun : Begun) (before mid : Option (List ℕ)) (s : Streamed wrap longest object places v begun before mid) → left object v ≡ []
-      → (answer_events false (processed None (yields_of longest places)) ≡ whole_events false (yields_of longest s.done) ++ end_events begun)
-      × (outcome_of (processed None (yields_of longest places)) ≡ Done (begun_counts begun))
+  -- no cut is left
+  stopped : (v : View) (begun : Begun) (before mid : Option (List ℕ)) (s : Streamed a object cuts v begun before mid) → left object v ≡ []
+      → (answer_events a.progress (processed a.limit (gives_all a cuts)) ≡ whole_events a.progress (gives_all a s.done) ++ end_events begun)
+      × (outcome_of (processed a.limit (gives_all a cuts)) ≡ Done (begun_counts begun))
   stopped v begun before mid s none =
-      let ys = yields_of longest s.done in
-      let all : yields_of longest places ≡ ys = ap (yields_of longest) (s.split ∙ ap (λ l. s.done ++ l) none ∙ append-nil s.done) in
-      let ends_here = stop false None ys s.unanswered (counts-fit longest object places s.done (left object v) s.split within few short) in (
-        ap (λ l. answer_events false (processed None l)) all ∙ ends_here.events ∙ ap (λ (b : Begun). whole_events false ys ++ end_events b) (sym s.stands),
-        ap (λ l. outcome_of (processed None l)) all ∙ ends_here.outcome ∙ ap (λ (b : Begun). Done (begun_counts b)) (sym s.stands),
+      let ys = gives_all a s.done in
+      let all : gives_all a cuts ≡ ys = ap (gives_all a) (s.split ∙ ap (λ l. s.done ++ l) none ∙ append-nil s.done) in
+      let ends_here = stop a.progress a.limit ys s.unanswered (fits s.done (left object v) s.split) in (
+        ap (λ l. answer_events a.progress (processed a.limit l)) all ∙ ends_here.events
+            ∙ ap (λ (b : Begun). whole_events a.progress ys ++ end_events b) (sym s.stands),
+        ap (λ l. outcome_of (processed a.limit l)) all ∙ ends_here.outcome ∙ ap (λ (b : Begun). Done (begun_counts b)) (sym s.stands),
       )
 
-  -- a line was answered and the reply goes on
-  pub line_on : (v w : View) (begun : Begun) (line : Line) (before mid now : Option (List ℕ)) → Streamed wrap longest object places v begun before mid → v.longest ≡ longest
-      → Holds object w × IsNextCut v.longest (left object v) (left object w) line → turn_outcome begun (turn_of line) ≡ None
-      → Appends mid now (wrapped_frames wrap (turn_events begun (turn_of line))) → Streamed wrap longest object places w (after_turn begun (turn_of line)) before now
-  line_on v w begun line before mid now s l next goes added =
-      let at = meets_at longest object v w line l next.1 (some_line line (not_ends begun line goes)) in
-      stream_on v w begun before mid s at.0 at.1 (turn_of line) now next.0 at.2 goes added
+  -- a turn was answered, and the reply goes on
+  pub turn_on : (v w : View) (begun : Begun) (turn : Turn) (before mid now : Option (List ℕ)) → Streamed a object cuts v begun before mid
+      → Holds object w → Shows a (left object v) (left object w) turn → turn_outcome begun turn ≡ None
+      → Appends mid now (wrapped_frames a.wrap (turn_events begun turn)) → Streamed a object cuts w (after_turn begun turn) before now
+  turn_on v w begun passes before mid now s holds shows goes added =
+      let ys = gives_all a s.done in
+      streamed_at a object cuts w begun before now (s.done ++ shows.0 ∷ []) ys (gives_more a s.done shows.0 [] shows.2 ∙ append-nil ys) holds
+      (passed_one cuts s.done shows.0 (left object v) (left object w) s.split shows.1) s.unanswered s.stands
+      (subst (Appends before now) (append-nil (whole_frames a.wrap a.progress ys)) (Appends-trans before mid now _ _ s.written added))
+  turn_on v w begun (yields y) before mid now s holds shows goes added =
+      record_on v w begun before mid s shows.0 shows.1 y shows.2 shows.3 shows.4 now (is_answered a.limit (gives_all a s.done ++ shows.2 ∷ [])) refl holds goes added
+  turn_on v w begun ends before mid now s holds shows goes added = absurd (cc)
 
-  some_ended : (v w : View) (begun : Begun) (line : Line) (before mid now : Option (List ℕ)) (outcome : Outcome) → Streamed wrap longest object places v begun before mid → v.longest ≡ longest
-      → IsNextCut v.longest (left object v) (left object w) line → IsSomeLine line → begun.left ≡ None → turn_outcome begun (turn_of line) ≡ Some outcome
-      → Appends mid now (wrapped_frames wrap (turn_events begun (turn_of line)))
-      → Appends before now (answer_frames wrap (processed None (yields_of longest places))) × (outcome ≡ outcome_of (processed None (yields_of longest places)))
-  some_ended v w begun line before mid now outcome s l next some free ended added =
-      let at = meets_at longest object v w line l next some in
-      turn_ended v w begun before mid s at.0 at.1 (turn_of line) now outcome at.2 free ended added
-
-  -- a line was answered and the reply ended with it
-  pub line_ended : (v w : View) (begun : Begun) (line : Line) (before mid now : Option (List ℕ)) (outcome : Outcome) → Streamed wrap longest object places v begun before mid → v.longest ≡ longest
-      → IsNextCut v.longest (left object v) (left object w) line → begun.left ≡ None → turn_outcome begun (turn_of line) ≡ Some outcome
-      → Appends mid now (wrapped_frames wrap (turn_events begun (turn_of line)))
-      → Appends before now (answer_frames wrap (processed None (yields_of longest places))) × (outcome ≡ outcome_of (processed None (yields_of longest places)))
-  line_ended v w begun (At start bytes whole) before mid now outcome s l next free ended added =
-      some_ended v w begun (At start bytes whole) before mid now outcome s l next tt free ended added
-  line_ended v w begun (TooLong start) before mid now outcome s l next free ended added =
-      some_ended v w begun (TooLong start) before mid now outcome s l next tt free ended added
-  line_ended v w begun End before mid now outcome s l next free ended added =
-      let whole = stopped v begun before mid s next.0 in
+  -- a turn ended the reply
+  pub turn_ended : (v w : View) (begun : Begun) (turn : Turn) (before mid now : Option (List ℕ)) (outcome : Outcome) → Streamed a object cuts v begun before mid
+      → Shows a (left object v) (left object w) turn → turn_outcome begun turn ≡ Some outcome
+      → Appends mid now (wrapped_frames a.wrap (turn_events begun turn))
+      → Appends before now (answer_frames a.wrap a.progress (processed a.limit (gives_all a cuts))) × (outcome ≡ outcome_of (processed a.limit (gives_all a cuts)))
+  turn_ended v w begun passes before mid now outcome s shows ended added = absurd (cc)
+  turn_ended v w begun (yields y) before mid now outcome s shows ended added =
+      record_ended v w begun before mid s shows.0 shows.1 y shows.2 shows.3 shows.4 now outcome (is_answered a.limit (gives_all a s.done ++ shows.2 ∷ [])) refl ended added
+  turn_ended v w begun ends before mid now outcome s shows ended added =
+      let whole = stopped v begun before mid s shows in
       let same : outcome ≡ Done (begun_counts begun) = cc in
       (events_whole v begun before mid now (end_events begun) s whole.0 added, same ∙ sym whole.1)
 
-  some_front : (v w : View) (begun : Begun) (line : Line) (before mid now : Option (List ℕ)) → Streamed wrap longest object places v begun before mid → v.longest ≡ longest
-      → IsNextCut v.longest (left object v) (left object w) line → IsSomeLine line → AppendsFront mid now (wrapped_frames wrap (turn_events begun (turn_of line)))
-      → AppendsFront before now (answer_frames wrap (processed None (yields_of longest places)))
-  some_front v w begun line before mid now s l next some front =
-      let at = meets_at longest object v w line l next some in
-      turn_front v w begun before mid s at.0 at.1 (turn_of line) now at.2 front
-
-  -- a front of what a line adds was written
-  pub line_front : (v w : View) (begun : Begun) (line : Line) (before mid now : Option (List ℕ)) → Streamed wrap longest object places v begun before mid → v.longest ≡ longest
-      → IsNextCut v.longest (left object v) (left object w) line → AppendsFront mid now (wrapped_frames wrap (turn_events begun (turn_of line)))
-      → AppendsFront before now (answer_frames wrap (processed None (yields_of longest places)))
-  line_front v w begun (At start bytes whole) before mid now s l next front = some_front v w begun (At start bytes whole) before mid now s l next tt front
-  line_front v w begun (TooLong start) before mid now s l next front = some_front v w begun (TooLong start) before mid now s l next tt front
-  line_front v w begun End before mid now s l next front =
-      let whole = stopped v begun before mid s next.0 in
+  -- a front of what a turn adds was written
+  pub turn_front : (v w : View) (begun : Begun) (turn : Turn) (before mid now : Option (List ℕ)) → Streamed a object cuts v begun before mid
+      → Shows a (left object v) (left object w) turn → AppendsFront mid now (wrapped_frames a.wrap (turn_events begun turn))
+      → AppendsFront before now (answer_frames a.wrap a.progress (processed a.limit (gives_all a cuts)))
+  turn_front v w begun passes before mid now s shows front =
+      let ys = gives_all a s.done in
+      let b = begins a.progress a.limit ys (gives_all a (left object v)) s.unanswered in
+      events_front v begun before mid now [] b.more s
+      (ap (λ l. answer_events a.progress (processed a.limit l)) (ap (gives_all a) s.split ∙ gives-append a s.done (left object v)) ∙ b.events) front
+  turn_front v w begun (yields y) before mid now s shows front =
+      record_front v w begun before mid s shows.0 shows.1 y shows.2 shows.3 shows.4 now (is_answered a.limit (gives_all a s.done ++ shows.2 ∷ [])) refl front
+  turn_front v w begun ends before mid now s shows front =
+      let whole = stopped v begun before mid s shows in
       events_front v begun before mid now (end_events begun) [] s
-      (whole.0 ∙ ap (λ (e : List Event). whole_events false (yields_of longest s.done) ++ e) (sym (append-nil (end_events begun)))) front
+      (whole.0 ∙ ap (λ (e : List Event). whole_events a.progress (gives_all a s.done) ++ e) (sym (append-nil (end_events begun)))) front
 
--- ---- an object without a byte
+-- ---- a range without a byte
 
-empty_events : answer_events false (processed None []) ≡ end_events (unbegun false None)
+empty_events : (progress : Bool) → answer_events progress (processed None []) ≡ end_events (unbegun progress None)
 unfolding whole_pieces remainder
-empty_events = refl
+empty_events progress = refl
 
-pub none_whole : (wrap : List ℕ → List ℕ) (begun : Begun) (before now : Option (List ℕ)) → begun ≡ unbegun false None → Appends before now (wrapped_frames wrap (end_events begun))
-    → Appends before now (answer_frames wrap [])
-none_whole wrap begun before now is added =
-    subst (λ (es : List Event). Appends before now (wrapped_frames wrap es)) (ap end_events is ∙ sym empty_events) added
+pub none_whole : (wrap : List ℕ → List ℕ) (progress : Bool) (begun : Begun) (before now : Option (List ℕ)) → begun ≡ unbegun progress None
+    → Appends before now (wrapped_frames wrap (end_events begun)) → Appends before now (answer_frames wrap progress [])
+none_whole wrap progress begun before now is added =
+    subst (λ (es : List Event). Appends before now (wrapped_frames wrap es)) (ap end_events is ∙ sym (empty_events progress)) added
 
-pub none_front : (wrap : List ℕ → List ℕ) (begun : Begun) (before now : Option (List ℕ)) → begun ≡ unbegun false None → AppendsFront before now (wrapped_frames wrap (end_events begun))
-    → AppendsFront before now (answer_frames wrap [])
-none_front wrap begun before now is added =
-    subst (λ (es : List Event). AppendsFront before now (wrapped_frames wrap es)) (ap end_events is ∙ sym empty_events) added
+pub none_front : (wrap : List ℕ → List ℕ) (progress : Bool) (begun : Begun) (before now : Option (List ℕ)) → begun ≡ unbegun progress None
+    → AppendsFront before now (wrapped_frames wrap (end_events begun)) → AppendsFront before now (answer_frames wrap progress [])
+none_front wrap progress begun before now is added =
+    subst (λ (es : List Event). AppendsFront before now (wrapped_frames wrap es)) (ap end_events is ∙ sym (empty_events progress)) added
 
-pub none_outcome : (begun : Begun) (outcome : Outcome) → begun ≡ unbegun false None → Some outcome ≡ Some (Done (begun_counts begun)) → outcome ≡ outcome_of []
-none_outcome begun outcome is same =
+pub none_outcome : (progress : Bool) (begun : Begun) (outcome : Outcome) → begun ≡ unbegun progress None → Some outcome ≡ Some (Done (begun_counts begun)) → outcome ≡ outcome_of []
+none_outcome progress begun outcome is same =
     let done : outcome ≡ Done (begun_counts begun) = cc in
     done ∙ ap (λ (b : Begun). Done (begun_counts b)) is

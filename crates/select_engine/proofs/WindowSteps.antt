@@ -49,8 +49,8 @@ took_at_most zero a b took = let same = took.none refl in omega arith
 took_at_most (suc n) a b took = let rose = took.some (omega arith) in omega arith
 
 -- no more was read than lies before the place and in the buffer
-pub read_near : (v : View) (longest taken : ℕ) → IsSound v → v.longest ≡ longest → taken ≤ v.upto → taken < v.place + (2 * longest + 5 * 65536)
-read_near v longest taken sound is within =
+pub read_near : (v : View) (longest upto : ℕ) → IsSound v → v.longest ≡ longest → upto ≤ v.upto + 1 → upto < v.place + (2 * longest + 5 * 65536)
+read_near v longest upto sound is within =
     let kept = sound.kept in
     let room = sound.room in
     omega arith

@@ -1,5 +1,5 @@
 -- What running a query makes of an open object.
-use Rattle.std.specs.Prelude.{◌≡◌, ℕ, ◌+◌, ◌*◌, nat_le, false, List, take_while, Option, None, Result, MatchResult}
+use Rattle.std.specs.Prelude.{◌≡◌, ℕ, ◌+◌, ◌*◌, nat_le, Bool, List, take_while, Option, Result, MatchResult}
 use Rattle.std.specs.Io.KnownBytes.{Appends, Keeps}
 use Rattle.select_ports.specs.Causes.{Rose}
 use Rattle.select_ports.specs.Streams.{IsFront, AppendsFront}
@@ -12,9 +12,9 @@ use Rattle.select_reply.specs.Replies.{outcome_of}
 use Rattle.select_engine.specs.declared.outcome.EngineError.{EngineError}
 use Rattle.select_engine.specs.declared.outcome.EngineError.TheVariants.{StoreFault, WriteFault, OutOfMemory}
 
--- the frames of the answer over these processed records, each in its wrapping
-abbrev pub answer_frames : (List ℕ → List ℕ) → List Yielded → List ℕ
-answer_frames wrap done = wrapped_frames wrap (answer_events false done)
+-- the frames of the answer over these processed records, each in its wrapping; with Progress events where they were asked for
+abbrev pub answer_frames : (List ℕ → List ℕ) → Bool → List Yielded → List ℕ
+answer_frames wrap progress done = wrapped_frames wrap (answer_events progress done)
 
 -- the frames of these events, each in its wrapping, were written whole, and the reply ended so; or a front of them was written
 abbrev pub WritesReply : {E : Type 0} → (List ℕ → List ℕ) → List Event → Outcome → Option (List ℕ) → Option (List ℕ) → Result Outcome E → Type 0
@@ -22,23 +22,23 @@ WritesReply wrap es ended before now result =
     MatchResult result (λ outcome. Appends before now (wrapped_frames wrap es) × (outcome ≡ ended)) (λ _. AppendsFront before now (wrapped_frames wrap es))
 
 -- the reply is the answer over the processed records
-abbrev pub Answers : (List ℕ → List ℕ) → List Yielded → Option (List ℕ) → Option (List ℕ) → Result Outcome EngineError → Type 0
-Answers wrap done before now result = WritesReply wrap (answer_events false done) (outcome_of done) before now result
+abbrev pub Answers : (List ℕ → List ℕ) → Bool → List Yielded → Option (List ℕ) → Option (List ℕ) → Result Outcome EngineError → Type 0
+Answers wrap progress done before now result = WritesReply wrap (answer_events progress done) (outcome_of done) before now result
 
--- the frames of the whole pieces of the records' output
-abbrev pub whole_frames : (List ℕ → List ℕ) → List Yielded → List ℕ
-whole_frames wrap done = wrapped_frames wrap (whole_events false done)
+-- the frames of the whole pieces of the records' output, each with its Progress event where these were asked for
+abbrev pub whole_frames : (List ℕ → List ℕ) → Bool → List Yielded → List ℕ
+whole_frames wrap progress done = wrapped_frames wrap (whole_events progress done)
 
--- the records that end before so many bytes of the object, but for twice the record limit and five pieces; records stand in
--- ascending order
+-- the records that end before a place up to which the object was read, but for twice the record limit and five pieces; records
+-- stand in ascending order
 abbrev pub early : ℕ → ℕ → List Yielded → List Yielded
-early longest taken done = take_while (λ y. nat_le (y.start + y.len + (2 * longest + 5 * piece)) taken) done
+early longest upto done = take_while (λ y. nat_le (y.start + y.len + (2 * longest + 5 * piece)) upto) done
 
 -- the whole pieces that the output of the early records reaches have been written
-pub record WroteEarly (wrap : List ℕ → List ℕ) (longest taken : ℕ) (done : List Yielded) (before now : Option (List ℕ)) : Type 0 where
+pub record WroteEarly (wrap : List ℕ → List ℕ) (progress : Bool) (longest upto : ℕ) (done : List Yielded) (before now : Option (List ℕ)) : Type 0 where
   pub bytes : List ℕ
   pub written : Appends before now bytes
-  pub front : IsFront (whole_frames wrap (early longest taken done)) bytes
+  pub front : IsFront (whole_frames wrap progress (early longest upto done)) bytes
 
 -- a failure has its cause: the store's or the output's count of faults rose; memory is refused before anything is written
 abbrev pub HasEngineCause : ℕ → ℕ → ℕ → ℕ → Option (List ℕ) → Option (List ℕ) → EngineError → Type 0

@@ -1,5 +1,5 @@
 -- What a body asks: it is refused, or it spells a request that is built.
-use Rattle.std.specs.Prelude.{◌≡◌, ◌⊎◌, ◌==◌, ◌&&◌, not, ℕ, Bool, true, false, List, codes, bytes_eq, is_none, Ok, Err}
+use Rattle.std.specs.Prelude.{◌≡◌, ◌⊎◌, ◌==◌, ◌&&◌, not, ℕ, Bool, true, false, List, codes, bytes_eq, Ok, Err}
 use Rattle.select_request.specs.Reading.{Reads}
 use Rattle.select_request.specs.declared.request.SelectRequest.{SelectRequest}
 use Rattle.select_request.specs.declared.request.Delimiter.{Delimiter}
@@ -45,12 +45,10 @@ abbrev pub is_plain_output : Output → Bool
 is_plain_output (output.Csv csv) = csv.field == 44 && csv.quote == 34 && csv.escape == 34 && not csv.always && is_line_feed csv.delimiter
 is_plain_output (output.Json delimiter) = false
 
--- a request that is built so far: one expression, over CSV with every setting at its default, without Progress events and without a
--- scan range
+-- a request that is built so far: one expression, over CSV with every setting at its default
 unfoldable pub is_built : SelectRequest → Bool
 is_built request =
-    bytes_eq request.expression (codes "SELECT * FROM S3Object") && not request.progress
-    && is_plain_input request.input && is_plain_output request.output && is_none request.range
+    bytes_eq request.expression (codes "SELECT * FROM S3Object") && is_plain_input request.input && is_plain_output request.output
 
 -- a fault of the body has the code of the same name
 abbrev pub code_of : RequestFaultCode → Code
@@ -86,3 +84,12 @@ Prepares body (asked.Asks request) = Reads body (Ok request) × (is_built reques
 abbrev pub IsAskedOf : SelectRequest → Asked → Type 0
 IsAskedOf request (asked.Refused code at) = (is_built request ≡ false) × (code ≡ NotBuilt) × (at ≡ 0)
 IsAskedOf request (asked.Asks other) = (other ≡ request) × (is_built request ≡ true)
+
+-- a request that is asked is built
+abbrev pub IsBuiltIfAsked : Asked → Type 0
+IsBuiltIfAsked (asked.Refused code at) = Unit {0}
+IsBuiltIfAsked (asked.Asks request) = is_built request ≡ true
+
+-- a body asks one thing
+abbrev pub EachAsksOneThing : Type 0
+EachAsksOneThing = (body : List ℕ) (asked other : Asked) → Prepares body asked → Prepares body other → asked ≡ other

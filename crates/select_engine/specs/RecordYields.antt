@@ -3,7 +3,7 @@ use Rattle.std.specs.Prelude.{ℕ, List, ◌++◌, map, Result, Ok, Err}
 use Rattle.line_window.specs.Cuts.{Cut}
 use Rattle.select_reply.specs.declared.code.Code.{Code}
 use Rattle.select_reply.specs.Yields.{Yield, writes, fails, Yielded}
-use Rattle.select_engine.specs.Records.{Record, delimiter, records_of, records}
+use Rattle.select_engine.specs.Records.{Record, delimiter, records_of}
 
 -- a record yields its content and the delimiter of the output, or its fault's code
 abbrev pub gives_of : Result (List ℕ) Code → Yield
@@ -16,7 +16,3 @@ yielded_of r = record { start = r.start; len = r.len; gives = gives_of r.row }
 -- what the records of these cuts yield
 abbrev pub yields_of : ℕ → List Cut → List Yielded
 yields_of longest cuts = map yielded_of (records_of longest cuts)
-
--- what the records of an object yield
-abbrev pub yields : ℕ → List ℕ → List Yielded
-yields longest object = map yielded_of (records longest object)

@@ -1,6 +1,6 @@
 //! What a body asks: a request that is built, or the refusal of the body.
 ghost use Rattle.std.specs.Prelude.{◌≡◌, IfOk};
-ghost use Rattle.select_engine.specs.Prepared.{Prepares, IsAskedOf, is_line_feed, is_without, is_plain_input, is_plain_output, is_built, code_of};
+ghost use Rattle.select_engine.specs.Prepared.{Prepares, IsAskedOf, IsBuiltIfAsked, is_line_feed, is_without, is_plain_input, is_plain_output, is_built, code_of};
 
 use select_reply::Code;
 use select_request::{
@@ -18,7 +18,8 @@ pub enum Asked {
 
 /// Reads a body: its own refusal comes first, and then that of a request that isn't built.
 pub fn prepare(alloc: Global, body: &[u8]) -> Result<Asked, AllocError>
-    ensures { IfOk result (Prepares body.now) }
+    ensures asked { IfOk result (Prepares body.now) }
+    ensures built { IfOk result IsBuiltIfAsked }
 {
     match select_request::read(alloc, body) {
         Ok(request) => Ok(unless_unbuilt(request)),
@@ -31,7 +32,8 @@ pub fn prepare(alloc: Global, body: &[u8]) -> Result<Asked, AllocError>
 }
 
 fn unless_unbuilt(request: SelectRequest) -> Asked
-    ensures { IsAskedOf request result }
+    ensures asked { IsAskedOf request result }
+    ensures built { IsBuiltIfAsked result }
 {
     if is_built(&request) {
         Asked::Asks(request)
@@ -49,10 +51,8 @@ fn is_built(request: &SelectRequest) -> bool
     ensures { result ≡ is_built request.now }
 {
     request.expression.text() == "SELECT * FROM S3Object"
-        && !request.progress
         && is_plain_input(request.input)
         && is_plain_output(request.output)
-        && request.range.is_none()
 }
 
 // Whether the object is CSV with every setting at its default.

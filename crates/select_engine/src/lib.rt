@@ -5,10 +5,12 @@
 mod asked;
 mod content;
 mod job;
+mod laws;
 mod line;
 mod outcome;
 
 pub use asked::{Asked, prepare};
 pub use job::{refuse, run_job};
+pub use laws::{body_asks_one_thing, tiles_have_each_record_once, unread_records_are_late};
 pub use outcome::EngineError;
 pub use select_reply::{Code, Outcome};

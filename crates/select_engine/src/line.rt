@@ -4,7 +4,8 @@ ghost use Rattle.select_ports.specs.Causes.{HasCause};
 ghost use Rattle.select_ports.specs.Streams.{AddsAll};
 ghost use Rattle.select_reply.specs.Events.{wrapped_frames};
 ghost use Rattle.select_reply.specs.Begun.{is_full};
-ghost use Rattle.select_engine.specs.LineTurns.{turn_of, content_turn, turn_events, turn_outcome, after_turn};
+ghost use Rattle.select_engine.specs.LineTurns.{content_turn, turn_of};
+ghost use Rattle.select_engine.specs.Turns.{after_turn, turn_events, turn_outcome};
 
 use crate::content::{content_fault, is_passed_over};
 use line_window::Line;

@@ -1,30 +1,32 @@
 -- Where nothing was read of an object, nothing had to be written.
-use Rattle.std.proofs.Common.{◌≡◌, ℕ, ◌+◌, ◌*◌, false, List, [], ◌∷◌, ◌++◌, Option, refl, sym, ap, ◌∙◌, arith, cond}
-use Rattle.std.specs.Prelude.{nat_le}
-use Rattle.std.proofs.lemmas.List.Sums.{take_while-cons}
-use Rattle.std.proofs.lemmas.Bool.{lt-leb}
+use Rattle.std.proofs.Common.{◌≡◌, ℕ, ◌+◌, Bool, List, [], ◌++◌, length, Option, refl, sym, ap, ◌∙◌, arith}
 use Rattle.std.specs.Io.KnownBytes.{Keeps}
 use Rattle.std.proofs.KnownBytes.{Appends-nil}
 use Rattle.select_ports.proofs.Told.{appends-kept}
 use Rattle.select_reply.specs.Pieces.{whole_pieces}
-use Rattle.select_reply.specs.Yields.{Yielded}
-use Rattle.select_engine.specs.Jobs.{whole_frames, early, WroteEarly}
+use Rattle.scan_ranges.specs.Resolved.{resolved}
+use Rattle.select_engine.specs.declared.asked.Asked.{Asked}
+use Rattle.select_engine.specs.declared.asked.Asked.TheVariants.{Refused, Asks}
+use Rattle.select_engine.specs.Early.{UnreadAreLate}
+use Rattle.select_engine.specs.Events.{answered}
+use Rattle.select_engine.specs.Jobs.{whole_frames, early}
+use Rattle.select_engine.specs.Selected.{first_of}
+use Rattle.select_tool.specs.Replies.{IsNotHeldBack, longest_record}
 
-none-early : (longest taken : ℕ) (ys : List Yielded) → taken ≡ 0 → early longest taken ys ≡ []
-none-early longest taken [] none = refl
-none-early longest taken (y ∷ ys) none =
-    let late_one : nat_le (y.start + y.len + (2 * longest + 5 * 65536)) taken ≡ false = lt-leb (y.start + y.len + (2 * longest + 5 * 65536)) taken (omega arith) in
-    take_while-cons (λ y. nat_le (y.start + y.len + (2 * longest + 5 * 65536)) taken) y ys
-    ∙ ap (λ b. cond b (y ∷ early longest taken ys) []) late_one
-
-no_frames : (wrap : List ℕ → List ℕ) → whole_frames wrap [] ≡ []
+no_frames : (wrap : List ℕ → List ℕ) (progress : Bool) → whole_frames wrap progress [] ≡ []
 unfolding whole_pieces
-no_frames wrap = refl
+no_frames wrap progress = refl
 
-pub wrote_none : (wrap : List ℕ → List ℕ) (longest taken : ℕ) (ys : List Yielded) (before now : Option (List ℕ)) → taken ≡ 0 → Keeps before now
-    → WroteEarly wrap longest taken ys before now
-wrote_none wrap longest taken ys before now none kept = record {
-  bytes = [];
-  written = appends-kept before before now [] (Appends-nil before) kept;
-  front = record { rest = []; joined = sym (ap (λ l. whole_frames wrap l ++ []) (none-early longest taken ys none) ∙ ap (λ l. l ++ []) (no_frames wrap)) };
-}
+pub wrote_none : UnreadAreLate → (wrap : List ℕ → List ℕ) (object : List ℕ) (taken : ℕ) (asked : Asked) (before now : Option (List ℕ)) → taken ≡ 0 → Keeps before now
+    → IsNotHeldBack wrap object taken asked before now
+wrote_none late wrap object taken (Refused code at) before now none kept = tt
+wrote_none late wrap object taken (Asks request) before now none kept =
+    let first = first_of (resolved request.range (length object)) in
+    let done = answered longest_record object request in
+    let same : first + taken ≡ first = omega arith in
+    let nothing : early longest_record (first + taken) done ≡ [] = ap (λ n. early longest_record n done) same ∙ late longest_record object request in
+    record {
+      bytes = [];
+      written = appends-kept before before now [] (Appends-nil before) kept;
+      front = record { rest = []; joined = sym (ap (λ l. whole_frames wrap request.progress l ++ []) nothing ∙ ap (λ l. l ++ []) (no_frames wrap request.progress)) };
+    }

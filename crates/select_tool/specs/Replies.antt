@@ -1,5 +1,5 @@
 -- What a command answers to a body about an object.
-use Rattle.std.specs.Prelude.{◌≡◌, ◌⊎◌, ℕ, ◌+◌, ◌<◌, ◌≤◌, List, [], Option, None, Some, IfSome, IsSome, ◌==◌, if◌then◌else◌, String}
+use Rattle.std.specs.Prelude.{◌≡◌, ◌⊎◌, ℕ, ◌+◌, ◌<◌, ◌≤◌, List, [], length, Option, None, Some, IfSome, IsSome, ◌==◌, if◌then◌else◌, String}
 use Rattle.std.specs.declared.alloc.Global.{Global}
 use Rattle.std.specs.Io.KnownBytes.{Appends, Keeps}
 use Rattle.select_ports.specs.Causes.{Rose, RoseBy}
@@ -13,11 +13,11 @@ use Rattle.select_tool.specs.declared.trouble.Trouble.{Trouble}
 use Rattle.select_tool.specs.declared.trouble.Trouble.TheVariants.{BadWords, NoSuchKey, InputFault, OutputFault, StoreFault, OutOfMemory, BadReply}
 use Rattle.select_tool.specs.Words.{Order, selects, lists, selected}
 use Rattle.select_engine.specs.Prepared.{Prepares}
-use Rattle.select_engine.specs.RecordYields.{yields}
-use Rattle.select_reply.specs.Answers.{processed}
 use Rattle.select_reply.specs.Events.{wrapped_frames}
 use Rattle.select_reply.specs.Replies.{outcome_of}
-use Rattle.select_engine.specs.Events.{events}
+use Rattle.scan_ranges.specs.Resolved.{resolved}
+use Rattle.select_engine.specs.Events.{answered, events}
+use Rattle.select_engine.specs.Selected.{first_of, most_taken}
 use Rattle.select_engine.specs.Jobs.{WroteEarly}
 use Rattle.select_tool.specs.Statuses.{line_of}
 
@@ -32,7 +32,7 @@ reply_frames wrap object asked = wrapped_frames wrap (events longest_record obje
 -- how the reply ends: a refused body with its Error event, and a query as it is answered
 abbrev pub reply_outcome : List ℕ → Asked → Outcome
 reply_outcome object (Refused code at) = Faulted code at
-reply_outcome object (Asks request) = outcome_of (processed None (yields longest_record object))
+reply_outcome object (Asks request) = outcome_of (answered longest_record object request)
 
 -- the reply to a body about an object, whole: the frames of its events, and how it ends
 pub record Replied (object body : List ℕ) (outcome : Outcome) (before now : Option (List ℕ)) : Type 0 where
@@ -47,10 +47,26 @@ pub record RepliedInPart (object body : List ℕ) (before now : Option (List ℕ
   pub prepared : Prepares body asked
   pub written : AppendsFront before now (reply_frames (λ frame. frame) object asked)
 
--- output isn't held back: where so many bytes of the object were read, the whole pieces that the early records' output reaches have
--- been written
-abbrev pub IsNotHeldBack : (List ℕ → List ℕ) → List ℕ → ℕ → Option (List ℕ) → Option (List ℕ) → Type 0
-IsNotHeldBack wrap object taken before now = WroteEarly wrap longest_record taken (processed None (yields longest_record object)) before now
+-- output isn't held back: where so many bytes of the object were read, from the first one of the range on, the whole pieces that the
+-- early records' output reaches have been written
+abbrev pub IsNotHeldBack : (List ℕ → List ℕ) → List ℕ → ℕ → Asked → Option (List ℕ) → Option (List ℕ) → Type 0
+IsNotHeldBack wrap object taken (Refused code at) before now = Unit {0}
+IsNotHeldBack wrap object taken (Asks request) before now =
+    WroteEarly wrap request.progress longest_record (first_of (resolved request.range (length object)) + taken) (answered longest_record object request) before now
+
+-- that of what the body asks
+abbrev pub NotHeldBack : List ℕ → List ℕ → ℕ → Option (List ℕ) → Option (List ℕ) → Type 0
+NotHeldBack object body taken before now = (asked : Asked) → Prepares body asked → IsNotHeldBack (λ frame. frame) object taken asked before now
+
+-- the most bytes that are read of an object of so many bytes: little more than the range that is asked for
+abbrev pub most_read_of : ℕ → Asked → ℕ
+most_read_of size (Refused code at) = 0
+most_read_of size (Asks request) = most_taken longest_record (resolved request.range size)
+
+-- no more was read of the open object than what the body asks needs
+abbrev pub TookNear : Opened → List ℕ → ℕ → ℕ → Type 0
+TookNear None body before now = now ≡ before
+TookNear (Some object) body before now = (asked : Asked) → Prepares body asked → now ≤ before + most_read_of object.0 asked
 
 -- nothing was written, or a front of the reply
 abbrev pub IsCutShort : List ℕ → List ℕ → Option (List ℕ) → Option (List ℕ) → Type 0

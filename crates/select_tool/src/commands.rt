@@ -4,7 +4,7 @@ ghost use Rattle.std.specs.Io.KnownBytes.{Keeps};
 ghost use Rattle.select_ports.specs.Causes.{Rose};
 ghost use Rattle.select_tool.specs.Words.{selects, lists, ordered, selected, listed};
 ghost use Rattle.select_tool.specs.Input.{IsUnread, most_of_body, most_of_replies, most_read};
-ghost use Rattle.select_tool.specs.Replies.{IfTold, IfAsked, IsReplied, IsCutShort, IsHeld, IsLacking, IsNotHeldBack, Misses, TookOnce, IsStatusOf, StaysAsItWas, line_of_status, status_of_outcome, WritesUnlessFaulty};
+ghost use Rattle.select_tool.specs.Replies.{IfTold, IfAsked, IsReplied, IsCutShort, IsHeld, IsLacking, NotHeldBack, Misses, TookNear, TookOnce, IsStatusOf, StaysAsItWas, line_of_status, status_of_outcome, WritesUnlessFaulty};
 ghost use Rattle.select_tool.specs.Statuses.{status_of, line_of};
 ghost use Rattle.select_tool.specs.Listings.{IfListed, IsAnswered, IsListedInPart, IsRefused, FailsInput};
 
@@ -55,8 +55,7 @@ pub fn run<S: Store, I: Source, O: Sink, E: Sink>(
         (λ object body. IsCutShort object body (O.written out.old) (O.written out.new)) }
     // Output isn't held back: where the store failed, the whole pieces that the early records' output reaches have been written.
     ensures early { result ≡ 5 → IfAsked words.now (S.held store.old) (I.left input.old)
-        (λ object body. IsNotHeldBack (λ frame. frame) object (S.taken store.new - S.taken store.old)
-        (O.written out.old) (O.written out.new)) }
+        (λ object body. NotHeldBack object body (S.taken store.new - S.taken store.old) (O.written out.old) (O.written out.new)) }
     // `show` and `records`. At status 0 and 1 the whole input is replies, and what their events add was written. 1 tells that one
     // of them has an Error event.
     ensures listed { result < 2 → IfListed words.now (I.left input.old)
@@ -98,6 +97,9 @@ pub fn run<S: Store, I: Source, O: Sink, E: Sink>(
         (line_of_status (ordered words.now) result) }
     // No byte of the object is read twice.
     ensures taken { IfSome (selected words.now) (λ name. TookOnce (S.current store.new) (S.taken store.old) (S.taken store.new)) }
+    // Little more is read of the object than the range that the body asks for.
+    ensures near { IfSome (selected words.now) (λ name. IfSome (I.left input.old)
+        (λ body. TookNear (S.current store.new) body (S.taken store.old) (S.taken store.new))) }
     // The input is read no further than one byte past the longest body, or past the most that is read of replies.
     ensures input_taken { I.taken input.new ≤ I.taken input.old + most_read (ordered words.now) }
     ensures held { S.held store.new ≡ S.held store.old }
@@ -126,8 +128,7 @@ fn run_select<S: Store, I: Source, O: Sink, E: Sink>(
     ensures front { 1 < result → IfTold (S.held store.old) (I.left input.old) name.now
         (λ object body. IsCutShort object body (O.written out.old) (O.written out.new)) }
     ensures early { result ≡ 5 → IfTold (S.held store.old) (I.left input.old) name.now
-        (λ object body. IsNotHeldBack (λ frame. frame) object (S.taken store.new - S.taken store.old)
-        (O.written out.old) (O.written out.new)) }
+        (λ object body. NotHeldBack object body (S.taken store.new - S.taken store.old) (O.written out.old) (O.written out.new)) }
     ensures only { (result < 6) ⊎ (result ≡ 7) }
     ensures two { result ≡ 2 → Keeps (O.written out.old) (O.written out.new)
         × IsUnread (I.taken input.old) (I.taken input.new) (I.left input.old) (I.left input.new)
@@ -146,6 +147,7 @@ fn run_select<S: Store, I: Source, O: Sink, E: Sink>(
     ensures line { WritesUnlessFaulty (E.faults err.old) (E.faults err.new) (E.written err.old) (E.written err.new)
         (line_of_status (Some (selects name.now)) result) }
     ensures taken { TookOnce (S.current store.new) (S.taken store.old) (S.taken store.new) }
+    ensures near { IfSome (I.left input.old) (λ body. TookNear (S.current store.new) body (S.taken store.old) (S.taken store.new)) }
     ensures input_taken { I.taken input.new ≤ I.taken input.old + most_of_body }
     ensures held { S.held store.new ≡ S.held store.old }
 {

@@ -4,16 +4,19 @@ ghost use Rattle.std.specs.Io.KnownBytes.{Keeps};
 ghost use Rattle.select_ports.specs.Causes.{Rose};
 ghost use Rattle.select_ports.specs.Stored.{IsOpen, OpensName};
 ghost use Rattle.line_window.specs.Sliding.{Tells};
-ghost use Rattle.select_engine.specs.Prepared.{Prepares};
+ghost use Rattle.select_engine.specs.Prepared.{IsBuiltIfAsked, Prepares};
 ghost use Rattle.select_reply.specs.Events.{error_event};
 ghost use Rattle.select_engine.specs.Events.{events};
 ghost use Rattle.select_engine.specs.Jobs.{WritesReply};
 ghost use Rattle.select_tool.specs.Input.{IsUnread, most_of_body};
-ghost use Rattle.select_tool.specs.Replies.{IfTold, Replied, IsCutShort, IsLacking, IsMissingOrFault, IsNotHeldBack, Misses, CauseOf, TookOnce, reply_outcome, longest_record};
+ghost use Rattle.select_tool.specs.Replies.{IfTold, Replied, IsCutShort, IsLacking, IsMissingOrFault, IsNotHeldBack, NotHeldBack, Misses, CauseOf, TookNear, TookOnce, reply_outcome, longest_record, most_read_of};
 
 use crate::input::read_body;
 use crate::trouble::Trouble;
-use select_engine::{Asked, Code, EngineError, Outcome, prepare, refuse, run_job};
+use select_engine::{
+    Asked, Code, EngineError, Outcome, body_asks_one_thing, prepare, refuse, run_job,
+    unread_records_are_late,
+};
 use select_ports::{Failed, Found, FrameSink, Limits, Plain, Sink, Source, Store};
 use std::alloc::Global;
 
@@ -33,8 +36,7 @@ pub(crate) fn select<S: Store, I: Source, O: Sink>(
     ensures front { IfErr result (λ trouble. IfTold (S.held store.old) (I.left input.old) name.now
         (λ object body. IsCutShort object body (O.written out.old) (O.written out.new))) }
     ensures early { result ≡ Err Trouble.StoreFault → IfTold (S.held store.old) (I.left input.old) name.now
-        (λ object body. IsNotHeldBack (λ frame. frame) object (S.taken store.new - S.taken store.old)
-        (O.written out.old) (O.written out.new)) }
+        (λ object body. NotHeldBack object body (S.taken store.new - S.taken store.old) (O.written out.old) (O.written out.new)) }
     ensures cause { IfErr result (λ trouble. CauseOf trouble
         (Misses (S.held store.old) name.now (S.current store.new) (S.absent store.old) (S.absent store.new)
         × IsUnread (I.taken input.old) (I.taken input.new) (I.left input.old) (I.left input.new))
@@ -44,9 +46,12 @@ pub(crate) fn select<S: Store, I: Source, O: Sink>(
         (Keeps (O.written out.old) (O.written out.new))) }
     ensures missing { IsLacking (S.held store.old) name.now → IsErrAnd result IsMissingOrFault }
     ensures taken { TookOnce (S.current store.new) (S.taken store.old) (S.taken store.new) }
+    ensures near { IfSome (I.left input.old) (λ body. TookNear (S.current store.new) body (S.taken store.old) (S.taken store.new)) }
     ensures input_taken { I.taken input.new ≤ I.taken input.old + most_of_body }
     ensures held { S.held store.new ≡ S.held store.old }
 {
+    body_asks_one_thing();
+    unread_records_are_late();
     let size = open(store, name)?;
     let asked = read_asked(alloc, input)?;
     write_reply(alloc, &asked, store, size, &mut Plain { sink: out })
@@ -75,6 +80,7 @@ fn open<S: Store>(store: &mut S, name: &str) -> Result<u64, Trouble>
 // Reads the body and what it asks.
 fn read_asked<I: Source>(alloc: Global, input: &mut I) -> Result<Asked, Trouble>
     ensures asked { IfOk result (λ asked. IfSome (I.left input.old) (λ body. Prepares body asked)) }
+    ensures built { IfOk result (λ asked. IsBuiltIfAsked asked) }
     ensures cause { IfErr result (λ trouble. CauseOf trouble ⊥ (Rose (I.faults input.old) (I.faults input.new)) ⊥ ⊥ ⊤) }
     ensures input_taken { I.taken input.new ≤ I.taken input.old + most_of_body }
 {
@@ -93,16 +99,18 @@ fn write_reply<S: Store, K: FrameSink>(
     size: u64,
     out: &mut K,
 ) -> Result<Outcome, Trouble>
-    requires { IsOpen (S.current store.old) size }
+    requires object { IsOpen (S.current store.old) size }
+    requires built { IsBuiltIfAsked asked.now }
     ensures reply { (object : List ℕ) → Tells (S.current store.old) object
         → WritesReply K.wrap (events longest_record object asked.now) (reply_outcome object asked.now)
         (K.written out.old) (K.written out.new) result }
     ensures early { (object : List ℕ) → Tells (S.current store.old) object → result ≡ Err Trouble.StoreFault
-        → IsNotHeldBack K.wrap object (S.taken store.new - S.taken store.old) (K.written out.old) (K.written out.new) }
+        → IsNotHeldBack K.wrap object (S.taken store.new - S.taken store.old) asked.now (K.written out.old) (K.written out.new) }
     ensures cause { IfErr result (λ trouble. CauseOf trouble ⊥ ⊥
         (Rose (K.faults out.old) (K.faults out.new))
         (Rose (S.faults store.old) (S.faults store.new))
         (Keeps (K.written out.old) (K.written out.new))) }
+    ensures near { S.taken store.new ≤ S.taken store.old + most_read_of size asked.now }
     ensures taken { S.taken store.new ≤ S.taken store.old + size }
     ensures held { S.held store.new ≡ S.held store.old }
     ensures current { S.current store.new ≡ S.current store.old }
@@ -112,7 +120,7 @@ fn write_reply<S: Store, K: FrameSink>(
 {
     match asked {
         Asked::Refused { code, at } => write_refusal(alloc, *code, *at, out),
-        Asked::Asks(_) => match run_job(alloc, LIMITS, store, size, out) {
+        Asked::Asks(request) => match run_job(alloc, LIMITS, request, store, size, out) {
             Ok(outcome) => Ok(outcome),
             Err(EngineError::StoreFault) => Err(Trouble::StoreFault),
             Err(EngineError::WriteFault) => Err(Trouble::OutputFault),

@@ -1,9 +1,6 @@
-use Rattle.std.proofs.Common.{◌≡◌, ◌-◌, None, arith}
+use Rattle.std.proofs.Common.{◌≡◌, ◌-◌, arith}
 use Rattle.std.proofs.KnownBytes.{Keeps-refl}
-use Rattle.select_engine.specs.RecordYields.{yields}
-use Rattle.select_reply.specs.Answers.{processed}
-use Rattle.select_engine.specs.Jobs.{WroteEarly}
-use Rattle.select_tool.specs.Replies.{longest_record}
+use Rattle.select_tool.specs.Replies.{NotHeldBack}
 use Rattle.select_tool.proofs.NothingRead.{wrote_none}
 use Rattle.select_tool.proofs.ReplyLaws.{all_told}
 use Rattle.select_tool.proofs.select.select.Goals as goal
@@ -14,5 +11,5 @@ returns-in_err-size-clause-early g c = λ is.
     let none : taken ≡ 0 = omega (arith, c.open.ensures.taken) in
     let written = g.O.Sink.written c.args.out.now in
     all_told (g.S.Store.held c.args.store.now) (g.I.Source.left c.args.input.now) c.args.name.now
-    (λ object body. WroteEarly (λ frame. frame) longest_record taken (processed None (yields longest_record object)) written written)
-    (λ object body. wrote_none (λ frame. frame) longest_record taken (processed None (yields longest_record object)) written written none (Keeps-refl written))
+    (λ object body. NotHeldBack object body taken written written)
+    (λ object body asked prepared. wrote_none c.unread_records_are_late.ensures (λ frame. frame) object taken asked written written none (Keeps-refl written))

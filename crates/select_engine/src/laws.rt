@@ -1,0 +1,26 @@
+//! Laws of what a body asks, of tilings, and of records that nothing was read of.
+ghost use Rattle.select_engine.specs.Early.{UnreadAreLate};
+ghost use Rattle.select_engine.specs.Prepared.{EachAsksOneThing};
+ghost use Rattle.select_engine.specs.Tiling.{EachTilingJoins};
+
+use line_window::adjacent_ranges_append;
+use select_request::body_has_one_reading;
+
+/// A body asks one thing: one request that is built, or one refusal.
+pub fn body_asks_one_thing()
+    ensures { EachAsksOneThing }
+{
+    body_has_one_reading();
+}
+
+/// The records of the tiles of an object, joined in order, are those of the whole object, each in one tile.
+pub fn tiles_have_each_record_once()
+    ensures { EachTilingJoins }
+{
+    adjacent_ranges_append();
+}
+
+/// Where nothing was read of a range, none of its records is early.
+pub fn unread_records_are_late()
+    ensures { UnreadAreLate }
+{}
