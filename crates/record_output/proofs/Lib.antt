@@ -4,6 +4,7 @@ pub mod Nodes
 pub mod Quoting
 pub mod ReadBack
 pub mod Recording
+pub mod Respelled
 pub mod Slices
 pub mod Spelling
 pub mod Whole

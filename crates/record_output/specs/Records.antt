@@ -15,7 +15,7 @@ use Rattle.record_output.specs.CsvFields.{csv_field}
 use Rattle.record_output.specs.JsonStrings.{json_string}
 use Rattle.record_output.specs.Values.{csv_text, json_value}
 
--- a value with its name, both as characters
+-- a value, and the characters of its name
 pub record Field : Type 0 where
   pub name : List ℕ
   pub value : Value

@@ -1,5 +1,6 @@
 //! What the definitions say in the words of the formats.
 ghost use Rattle.std.specs.Prelude.{◌≡◌, ◌≤◌, ℕ, List, ◌++◌, ◌∷◌, [], length};
+ghost use Rattle.text_view.specs.JsonString.{SpellsString};
 ghost use Rattle.text_view.specs.QuotedField.{StandsFor};
 ghost use Rattle.json_text.specs.Grammar.{Json};
 ghost use Rattle.json_text.specs.Nodes.{Spells};
@@ -8,6 +9,7 @@ ghost use Rattle.sql_value.specs.declared.value.Value.TheVariants.{Node};
 ghost use Rattle.select_request.specs.declared.request.CsvOutput.{CsvOutput};
 ghost use Rattle.select_request.specs.declared.request.Output.{Output};
 ghost use Rattle.record_output.specs.CsvFields.{escaped_text};
+ghost use Rattle.record_output.specs.JsonStrings.{spelled_text};
 ghost use Rattle.record_output.specs.Values.{csv_text, json_value, tree_text};
 ghost use Rattle.record_output.specs.Records.{Field, record_text};
 
@@ -22,6 +24,11 @@ pub fn json_values_by_tree()
 /// quoted fields takes it.
 pub fn quoted_fields_are_read()
     ensures { (csv : CsvOutput) (text : List ℕ) → StandsFor csv.quote csv.escape (escaped_text csv text ++ csv.quote ∷ []) text }
+{}
+
+/// What stands between the quotation marks of a JSON string spells its text.
+pub fn json_strings_are_read()
+    ensures { (text : List ℕ) → SpellsString (spelled_text text) text }
 {}
 
 /// A record of more fields is no shorter: one that is over the limit stays so.

@@ -9,5 +9,7 @@ mod out;
 mod parts;
 mod spelled;
 
-pub use crate::laws::{json_values_by_tree, more_fields_are_no_shorter, quoted_fields_are_read};
+pub use crate::laws::{
+    json_strings_are_read, json_values_by_tree, more_fields_are_no_shorter, quoted_fields_are_read,
+};
 pub use crate::out::{Out, OutFault};
