@@ -19,3 +19,4 @@ pub use crate::checking::{JsonCode, JsonFault, check};
 pub use crate::elements::Elements;
 pub use crate::members::{JsonMember, Members};
 pub use crate::node::{JsonNode, Kind};
+pub use crate::runs::plain_end;

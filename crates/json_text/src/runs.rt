@@ -20,9 +20,10 @@ fn specials<const N: usize>(bytes: &[u8], at: usize) -> u64
         | lanes.simd_lt(Simd::splat(32))).to_bitmask()
 }
 
-/// The place behind the plain bytes of a string.
+/// The place behind the bytes that stand for themselves in a string, from a place on: neither a quotation mark nor a reverse solidus
+/// nor a control character (RFC 8259, section 7, `unescaped`).
 #[inline(always)]
-pub(crate) fn plain_end(bytes: &[u8], from: usize) -> usize
+pub fn plain_end(bytes: &[u8], from: usize) -> usize
     requires { from ≤ length bytes.now }
     ensures value { result ≡ from + prefix_len is_plain (drop from bytes.now) }
     ensures within { result ≤ length bytes.now }

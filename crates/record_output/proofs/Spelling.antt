@@ -57,3 +57,9 @@ some_byte c = longer_if (is_special c) (escape c) (c ∷ []) (some_escape c) (om
 pub string_longer : (text : List ℕ) → length text ≤ length (json_string text)
 unfolding spelled_text
 string_longer text = omega (arith, no_shorter spelled some_byte text, length-append (flat_map spelled text) (34 ∷ []))
+
+-- a search from the front
+pub from_front : (text : List ℕ) (at : ℕ) → at ≡ 0 + prefix_len is_plain (drop 0 text) → at ≡ prefix_len is_plain text
+from_front text at is =
+    let none : 0 + prefix_len is_plain text ≡ prefix_len is_plain text = omega arith in
+    is ∙ none

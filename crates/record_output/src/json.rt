@@ -1,13 +1,10 @@
 //! A JSON string.
-ghost use Rattle.std.specs.Prelude.{◌≡◌, ◌<◌, ◌+◌, ◌/◌, ◌%◌, ◌≤◌, ◌++◌, [], ◌∷◌, length, take, drop, map, MatchOption};
-ghost use Rattle.std.specs.List.{prefix_len};
-ghost use Rattle.std.specs.Simd.Lanes.{mask_l};
-ghost use Rattle.json_text.specs.Runs.{is_special, is_plain};
+ghost use Rattle.std.specs.Prelude.{◌≡◌, ◌<◌, ◌/◌, ◌%◌, ◌++◌, [], ◌∷◌, length, MatchOption};
 ghost use Rattle.record_output.specs.Appending.{Appends};
 ghost use Rattle.record_output.specs.JsonStrings.{spelled_text, json_string, escape, hex_digit};
 
 use crate::appending::push;
-use std::simd::prelude::*;
+use json_text::plain_end;
 use text_view::{Buf, Full};
 
 /// Appends the string of a text, or some front of it where it doesn't fit. Bytes that stand for themselves are copied by runs.
@@ -48,7 +45,7 @@ fn cut_at_special(text: &[u8]) -> Option<Cut<'_>>
         (λ cut. (length cut.behind.now < length text.now)
         × (spelled_text text.now ≡ (cut.front.now ++ escape cut.byte) ++ spelled_text cut.behind.now)) }
 {
-    let at = plain_end(text);
+    let at = plain_end(text, 0);
     if at >= text.len() {
         return None;
     }
@@ -106,72 +103,4 @@ fn hex_digit(number: u8) -> u8
     } else {
         87 + number
     }
-}
-
-/// Which of the N bytes from place `at` on don't stand for themselves.
-#[inline(always)]
-fn specials<const N: usize>(bytes: &[u8], at: usize) -> u64
-    requires short { N ≤ 64 }
-    requires within { at + N ≤ length bytes.now }
-    ensures { result ≡ mask_l (map is_special (take N (drop at bytes.now))) }
-{
-    let lanes: Simd<u8, N> = Simd::from_slice(&bytes[at..]);
-    (lanes.simd_eq(Simd::splat(b'"'))
-        | lanes.simd_eq(Simd::splat(b'\\'))
-        | lanes.simd_lt(Simd::splat(32))).to_bitmask()
-}
-
-/// How many bytes in front stand for themselves.
-#[inline]
-fn plain_end(bytes: &[u8]) -> usize
-    ensures value { result ≡ prefix_len is_plain bytes.now }
-    ensures within { result ≤ length bytes.now }
-{
-    let mut at = 0;
-    'each: while bytes.len() - at >= 16 {
-        let found = specials::<16>(bytes, at);
-        if found != 0 {
-            return at + found.trailing_zeros() as usize;
-        }
-        at += 16;
-    }
-    plain_end_8(bytes, at)
-}
-
-/// The place behind the bytes that stand for themselves, near the end.
-#[inline]
-fn plain_end_8(bytes: &[u8], from: usize) -> usize
-    requires { from ≤ length bytes.now }
-    ensures value { result ≡ from + prefix_len is_plain (drop from bytes.now) }
-    ensures within { result ≤ length bytes.now }
-{
-    if bytes.len() - from < 8 {
-        return plain_end_bytes(bytes, from);
-    }
-    let found = specials::<8>(bytes, from);
-    if found != 0 {
-        return from + found.trailing_zeros() as usize;
-    }
-    plain_end_bytes(bytes, from + 8)
-}
-
-/// The same of fewer than eight bytes.
-#[inline]
-fn plain_end_bytes(bytes: &[u8], from: usize) -> usize
-    requires { from ≤ length bytes.now }
-    ensures value { result ≡ from + prefix_len is_plain (drop from bytes.now) }
-    ensures within { result ≤ length bytes.now }
-{
-    let mut at = from;
-    'each: while at < bytes.len() && is_plain(bytes[at]) {
-        at += 1;
-    }
-    at
-}
-
-#[inline(always)]
-fn is_plain(byte: u8) -> bool
-    ensures { result ≡ is_plain byte }
-{
-    byte != b'"' && byte != b'\\' && byte >= 32
 }

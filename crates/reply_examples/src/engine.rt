@@ -2,7 +2,9 @@
 
 use case_tables::{Row, show};
 use event_frame::{Counts, crc32};
-use select_engine::{Asked, Code, EngineError, Outcome, prepare, refuse, run_job};
+use select_engine::{
+    Asked, Code, EngineError, Outcome, prepare, refuse, run_job, tiles_have_each_record_once,
+};
 use select_ports::{Found, Limits, MemObject, MemSink, MemStore, Plain, Store};
 use std::alloc::Global;
 use std::test::Fail;
@@ -37,6 +39,7 @@ pub(crate) fn tell_job(alloc: Global, row: &Row) -> Result<String, Fail> {
     let Ok(Found::Size(size)) = store.open("o") else {
         return Err(Fail::new("no object"));
     };
+    tiles_have_each_record_once();
     let limits = Limits { longest: 1_048_576 };
     let mut sink = MemSink::new(Vec::new(alloc), Vec::new(alloc), Vec::new(alloc));
     let mut out = Plain { sink: &mut sink };

@@ -154,7 +154,8 @@ head-later : (n m : ℕ) (ys : List Yielded) → n ≤ m → HeadFrom m ys → H
 head-later n m [] le h = tt
 head-later n m (y ∷ ys) le h = omega arith
 
-start-is : (longest : ℕ) (cut : Cut) → (yielded_of (record_of longest cut)).start ≡ cut.start
+-- where the record of a cut starts
+pub start-is : (longest : ℕ) (cut : Cut) → (record_of longest cut).start ≡ cut.start
 unfolding record_of
 start-is longest cut = refl
 

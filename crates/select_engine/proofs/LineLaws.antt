@@ -12,6 +12,7 @@ use Rattle.select_engine.specs.Records.{record_of, is_record, is_too_long, is_pa
 use Rattle.select_engine.specs.RecordYields.{gives_of, yielded_of, yields_of}
 use Rattle.select_engine.specs.Turns.{passes, yields}
 use Rattle.select_engine.specs.LineTurns.{asking, content_turn, turn_of}
+use Rattle.select_engine.proofs.BoundLaws.{start-is}
 use Rattle.select_engine.proofs.StreamLaws.{Shows}
 
 -- a cut that is a record, and one that is none
@@ -38,10 +39,6 @@ len_of : (longest : ℕ) (cut : Cut) → (record_of longest cut).len ≡ cut.who
 unfolding record_of
 len_of longest cut = refl
 
-start_of : (longest : ℕ) (cut : Cut) → (record_of longest cut).start ≡ cut.start
-unfolding record_of
-start_of longest cut = refl
-
 module _ (wrap : List ℕ → List ℕ) (progress : Bool) (longest : ℕ) where
   content_shows : (before after : List Cut) (cut : Cut) (passed : Bool) → before ≡ cut ∷ after → is_too_long longest cut ≡ false
       → is_passed_over (content cut) ≡ passed
@@ -53,7 +50,7 @@ module _ (wrap : List ℕ → List ℕ) (progress : Bool) (longest : ℕ) where
     first,
     yielded_of (record_of longest cut),
     record_here longest cut (tested longest cut false false short is),
-    (start_of longest cut, ap gives_of (row_of longest cut short), λ _. len_of longest cut),
+    (start-is longest cut, ap gives_of (row_of longest cut short), λ _. len_of longest cut),
   )
 
   -- the next line of a window shows the first of the cuts that were left
@@ -77,7 +74,7 @@ module _ (wrap : List ℕ → List ℕ) (progress : Bool) (longest : ℕ) where
         yielded_of (record_of longest cut),
         record_here longest cut here,
         (
-          start_of longest cut ∙ sym is.0,
+          start-is longest cut ∙ sym is.0,
           ap gives_of (long_row longest cut long),
           λ fine. absurd (let faulty : is_fault (fails OverMaxRecordSize) ≡ true = refl in cc),
         ),

@@ -9,6 +9,7 @@ use Rattle.line_window.specs.Cuts.{Cut, cut_at, cuts, cuts_in, AdjacentCutsAppen
 use Rattle.select_engine.specs.Records.{Record, record_of, is_record, records_of, records, delimiter}
 use Rattle.select_engine.specs.RecordYields.{yielded_of, yields_of}
 use Rattle.select_engine.specs.Selected.{lies_in, yields}
+use Rattle.select_engine.proofs.BoundLaws.{start-is}
 
 -- each record starts from a place on, and before another
 abbrev pub Between : ℕ → ℕ → List Record → Type 0
@@ -19,10 +20,6 @@ between_wider : (n m p q : ℕ) (rs : List Record) → p ≤ n → m ≤ q → B
 between_wider n m p q [] low high b = tt
 between_wider n m p q (r ∷ rs) low high b = (omega (arith, b.0), omega (arith, b.1), between_wider n m p q rs low high b.2)
 
-start_is : (longest : ℕ) (cut : Cut) → (record_of longest cut).start ≡ cut.start
-unfolding record_of
-start_is longest cut = refl
-
 -- the records of the cuts among some places
 records_between : (longest : ℕ) (object : List ℕ) (a k : ℕ) → Between a (a + k) (records_of longest (cuts delimiter object a k))
 records_between longest object a zero = tt
@@ -31,8 +28,8 @@ records_between longest object a (suc k) =
     let later = starts delimiter object (suc a) k in
     let rest : Between a (a + suc k) (records_of longest (map cut later)) =
     between_wider (suc a) (suc a + k) a (a + suc k) (records_of longest (map cut later)) (omega arith) (omega arith) (records_between longest object (suc a) k) in
-    let from : a ≤ (record_of longest (cut a)).start = omega (arith, start_is longest (cut a)) in
-    let to : (record_of longest (cut a)).start < a + suc k = omega (arith, start_is longest (cut a)) in
+    let from : a ≤ (record_of longest (cut a)).start = omega (arith, start-is longest (cut a)) in
+    let to : (record_of longest (cut a)).start < a + suc k = omega (arith, start-is longest (cut a)) in
     let P : Bool → Type 0 = λ b. Between a (a + suc k) (records_of longest (map cut (if b then a ∷ later else later))) in
     let Q : Bool → Type 0 = λ b. Between a (a + suc k) (map (record_of longest) (if b then cut a ∷ filter (is_record longest) (map cut later) else filter (is_record longest) (map cut later))) in
     elim (is_start delimiter object a) as P [
@@ -89,22 +86,16 @@ cuts_joined adjacent object first middle end low high =
     let Q : Bool → Type 0 = λ b. nat_le (suc middle) end ≡ b → first < middle → Goal first middle end in
     (elim (nat_le (suc first) middle) as P [
       | true ↦ λ below. (elim (nat_le (suc middle) end) as Q [
-        | true ↦ λ above less. cuts_then adjacent object first middle end less (omega (arith, leb_le (suc middle) end above))
+        | true ↦ λ above less. cuts_then adjacent object first middle end less (omega (arith, leb-true (suc middle) end above))
         | false ↦ λ above less.
-            let same : middle ≡ end = omega (arith, leb_gt (suc middle) end above) in
+            let same : middle ≡ end = omega (arith, leb-false (suc middle) end above) in
             subst (λ e. Goal first middle e) same
             (sym (ap (λ l. cuts delimiter object first (middle - first) ++ l) (no_places object middle) ∙ append-nil (cuts delimiter object first (middle - first))))
-      ]) refl (omega (arith, leb_le (suc first) middle below))
+      ]) refl (omega (arith, leb-true (suc first) middle below))
       | false ↦ λ below.
-          let same : first ≡ middle = omega (arith, leb_gt (suc first) middle below) in
+          let same : first ≡ middle = omega (arith, leb-false (suc first) middle below) in
           subst (λ m. Goal first m end) same (ap (λ l. l ++ cuts delimiter object first (end - first)) (sym (no_places object first)))
     ]) refl
-  where
-    leb_le : (n m : ℕ) → nat_le n m ≡ true → n ≤ m
-    leb_le n m is = leb-true n m is
-
-    leb_gt : (n m : ℕ) → nat_le n m ≡ false → m < n
-    leb_gt n m is = leb-false n m is
 
 none_less : (n : ℕ) → n - 0 ≡ n
 none_less n = omega arith

@@ -5,11 +5,13 @@ use Rattle.std.specs.List.{flat_map}
 use Rattle.std.proofs.lemmas.Bool.{le-ltb, lt-ltb, le-leb, leb-true, leb-false}
 use Rattle.line_window.specs.Cuts.{cuts, AdjacentCutsAppend}
 use Rattle.scan_ranges.specs.Resolved.{cut_to, resolved}
-use Rattle.select_reply.specs.Yields.{Yielded}
+use Rattle.select_reply.specs.Yields.{Yielded, has_fault, output, total_len}
+use Rattle.select_reply.specs.Answers.{processed}
+use Rattle.select_reply.specs.Tilings.{payload_of, EachTilesJoin}
 use Rattle.select_engine.specs.Records.{delimiter}
 use Rattle.select_engine.specs.RecordYields.{yields_of}
 use Rattle.select_engine.specs.Selected.{yields}
-use Rattle.select_engine.specs.Tiling.{Ascend, ranges_from, EachTilingJoins}
+use Rattle.select_engine.specs.Tiling.{Ascend, ranges_from, tile_yields, EachTilingJoins, EachTilingMakesTheWhole}
 use Rattle.select_engine.proofs.BoundLaws.{yields_of-append}
 use Rattle.select_engine.proofs.SelectedLaws.{cuts_joined, none_yields, range_yields}
 
@@ -105,3 +107,13 @@ pub each_tiling_joins : AdjacentCutsAppend → EachTilingJoins
 each_tiling_joins adjacent longest object cuts up =
     tiles_from adjacent longest object 0 cuts up
     ∙ sym (ap (yields longest object) (whole_is (length object)) ∙ last_tile adjacent longest object 0)
+
+pub each_tiling_makes_the_whole : AdjacentCutsAppend → EachTilesJoin → EachTilingMakesTheWhole
+each_tiling_makes_the_whole adjacent join progress longest object cuts up fine =
+    let whole = each_tiling_joins adjacent longest object cuts up in
+    let all = join progress (tile_yields longest object cuts) (ap has_fault whole ∙ fine) in
+    record {
+      payloads = all.payloads ∙ ap (payload_of progress) whole;
+      scanned = all.scanned ∙ ap (λ (ys : List Yielded). total_len (processed None ys)) whole;
+      returned = all.returned ∙ ap (λ (ys : List Yielded). length (output (processed None ys))) whole;
+    }

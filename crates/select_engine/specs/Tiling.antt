@@ -1,8 +1,10 @@
 -- A tiling of an object: the ranges between ascending cuts, which have all its bytes together, each in one range.
-use Rattle.std.specs.Prelude.{◌≡◌, ℕ, ◌-◌, ◌<◌, List, [], ◌∷◌, length, map, Option, None}
+use Rattle.std.specs.Prelude.{◌≡◌, ℕ, ◌-◌, ◌<◌, Bool, false, List, [], ◌∷◌, length, map, sum_by, Option, None}
 use Rattle.std.specs.List.{flat_map}
 use Rattle.scan_ranges.specs.Resolved.{resolved, cut_to}
-use Rattle.select_reply.specs.Yields.{Yielded}
+use Rattle.select_reply.specs.Yields.{Yielded, has_fault, output, total_len}
+use Rattle.select_reply.specs.Answers.{processed}
+use Rattle.select_reply.specs.Tilings.{payload_of, payloads_of}
 use Rattle.select_engine.specs.Selected.{yields}
 
 -- the cuts ascend, each above a place
@@ -23,8 +25,24 @@ tiles cuts size = ranges_from 0 cuts size
 abbrev pub tile_yields : ℕ → List ℕ → List ℕ → List (List Yielded)
 tile_yields longest object cuts = map (yields longest object) (tiles cuts (length object))
 
+-- what the records of the whole object yield
+abbrev pub whole_yields : ℕ → List ℕ → List Yielded
+whole_yields longest object = yields longest object (resolved None (length object))
+
 -- The tiling law: the records of the tiles, joined in order, are those of the whole object, each in one tile.
 abbrev pub EachTilingJoins : Type 0
 EachTilingJoins =
-    (longest : ℕ) (object cuts : List ℕ) → Ascend 0 cuts
-    → flat_map (λ t. t) (tile_yields longest object cuts) ≡ yields longest object (resolved None (length object))
+    (longest : ℕ) (object cuts : List ℕ) → Ascend 0 cuts → flat_map (λ t. t) (tile_yields longest object cuts) ≡ whole_yields longest object
+
+-- the replies over the tiles make the reply over the whole: the output that they carry, joined, and the counts, added
+pub record MakesTheWhole (progress : Bool) (longest : ℕ) (object cuts : List ℕ) : Type 0 where
+  pub payloads : payloads_of progress (tile_yields longest object cuts) ≡ payload_of progress (whole_yields longest object)
+  pub scanned : sum_by (λ t. total_len (processed None t)) (tile_yields longest object cuts) ≡ total_len (processed None (whole_yields longest object))
+  pub returned : sum_by (λ t. length (output (processed None t))) (tile_yields longest object cuts)
+      ≡ length (output (processed None (whole_yields longest object)))
+
+-- and they do where no record of the whole has a code
+abbrev pub EachTilingMakesTheWhole : Type 0
+EachTilingMakesTheWhole =
+    (progress : Bool) (longest : ℕ) (object cuts : List ℕ) → Ascend 0 cuts → has_fault (whole_yields longest object) ≡ false
+    → MakesTheWhole progress longest object cuts

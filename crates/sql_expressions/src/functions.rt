@@ -29,7 +29,9 @@ pub(crate) fn cast_rest<F: Fn(&mut Tokens<'_>, &mut u32) -> Result<Boxed<Expr>, 
 ) -> Result<Boxed<Expr>, Stop>
     requires callable { F.IsAlwaysCallable nest.now.expression }
     requires reads { Reads (read_inside nest.now.depth) (F.post nest.now.expression) }
-    ensures { GivesCounted (read_cast_rest (room_of nest.now.depth) (read_inside nest.now.depth) primaries.old tokens.old.symbols) result primaries.new tokens.new.symbols }
+    ensures { GivesCounted
+        (read_cast_rest (room_of nest.now.depth) (read_inside nest.now.depth)
+        primaries.old tokens.old.symbols) result primaries.new tokens.new.symbols }
 {
     let value = inside(nest, tokens, primaries)?;
     expect(tokens, Class::As)?;
@@ -45,7 +47,9 @@ pub(crate) fn listed<F: Fn(&mut Tokens<'_>, &mut u32) -> Result<Boxed<Expr>, Sto
 ) -> Result<Items<Expr>, Stop>
     requires callable { F.IsAlwaysCallable nest.now.expression }
     requires reads { Reads (read_inside nest.now.depth) (F.post nest.now.expression) }
-    ensures { GivesCounted (read_listed (read_inside nest.now.depth) primaries.old tokens.old.symbols) result primaries.new tokens.new.symbols }
+    ensures { GivesCounted
+        (read_listed (read_inside nest.now.depth)
+        primaries.old tokens.old.symbols) result primaries.new tokens.new.symbols }
 {
     let first = inside(nest, tokens, primaries)?;
     let mut all = Items::new(nest.alloc);
@@ -66,7 +70,9 @@ pub(crate) fn coalesce_rest<F: Fn(&mut Tokens<'_>, &mut u32) -> Result<Boxed<Exp
 ) -> Result<Boxed<Expr>, Stop>
     requires callable { F.IsAlwaysCallable nest.now.expression }
     requires reads { Reads (read_inside nest.now.depth) (F.post nest.now.expression) }
-    ensures { GivesCounted (read_coalesce_rest (room_of nest.now.depth) (read_inside nest.now.depth) primaries.old tokens.old.symbols) result primaries.new tokens.new.symbols }
+    ensures { GivesCounted
+        (read_coalesce_rest (room_of nest.now.depth) (read_inside nest.now.depth)
+        primaries.old tokens.old.symbols) result primaries.new tokens.new.symbols }
 {
     let all = listed(nest, tokens, primaries)?;
     Ok(Boxed::new(nest.alloc, Expr::Coalesce(all))?)
@@ -81,7 +87,9 @@ pub(crate) fn nullif_rest<F: Fn(&mut Tokens<'_>, &mut u32) -> Result<Boxed<Expr>
 ) -> Result<Boxed<Expr>, Stop>
     requires callable { F.IsAlwaysCallable nest.now.expression }
     requires reads { Reads (read_inside nest.now.depth) (F.post nest.now.expression) }
-    ensures { GivesCounted (read_nullif_rest (room_of nest.now.depth) (read_inside nest.now.depth) primaries.old tokens.old.symbols) result primaries.new tokens.new.symbols }
+    ensures { GivesCounted
+        (read_nullif_rest (room_of nest.now.depth) (read_inside nest.now.depth)
+        primaries.old tokens.old.symbols) result primaries.new tokens.new.symbols }
 {
     let left = inside(nest, tokens, primaries)?;
     expect(tokens, Class::Comma)?;
@@ -99,7 +107,9 @@ pub(crate) fn maybe_behind<F: Fn(&mut Tokens<'_>, &mut u32) -> Result<Boxed<Expr
     requires callable { F.IsAlwaysCallable nest.now.expression }
     requires reads { Reads (read_inside nest.now.depth) (F.post nest.now.expression) }
     requires token { is_token class ≡ true }
-    ensures { GivesCounted (read_maybe (of class) (read_counted_past (of class) (read_inside nest.now.depth)) primaries.old tokens.old.symbols) result primaries.new tokens.new.symbols }
+    ensures { GivesCounted
+        (read_maybe (of class) (read_counted_past (of class) (read_inside nest.now.depth))
+        primaries.old tokens.old.symbols) result primaries.new tokens.new.symbols }
 {
     if !sees(tokens, class) {
         return Ok(None);
@@ -116,7 +126,9 @@ pub(crate) fn maybe_for<F: Fn(&mut Tokens<'_>, &mut u32) -> Result<Boxed<Expr>, 
 ) -> Result<Option<Boxed<Expr>>, Stop>
     requires callable { F.IsAlwaysCallable nest.now.expression }
     requires reads { Reads (read_inside nest.now.depth) (F.post nest.now.expression) }
-    ensures { GivesCounted (read_maybe (begins is_for) (read_counted_past (begins is_for) (read_inside nest.now.depth)) primaries.old tokens.old.symbols) result primaries.new tokens.new.symbols }
+    ensures { GivesCounted
+        (read_maybe (begins is_for) (read_counted_past (begins is_for) (read_inside nest.now.depth))
+        primaries.old tokens.old.symbols) result primaries.new tokens.new.symbols }
 {
     if !is_for(tokens.class()) {
         return Ok(None);
@@ -136,7 +148,9 @@ pub(crate) fn substring_commas<F: Fn(&mut Tokens<'_>, &mut u32) -> Result<Boxed<
 ) -> Result<Boxed<Expr>, Stop>
     requires callable { F.IsAlwaysCallable nest.now.expression }
     requires reads { Reads (read_inside nest.now.depth) (F.post nest.now.expression) }
-    ensures { GivesCounted (read_given (λ p. e.Substring text p.0 p.1) (read_substring_commas (room_of nest.now.depth) (read_inside nest.now.depth)) primaries.old tokens.old.symbols) result primaries.new tokens.new.symbols }
+    ensures { GivesCounted
+        (read_given (λ p. e.Substring text p.0 p.1) (read_substring_commas (room_of nest.now.depth) (read_inside nest.now.depth))
+        primaries.old tokens.old.symbols) result primaries.new tokens.new.symbols }
 {
     expect(tokens, Class::Comma)?;
     let start = inside(nest, tokens, primaries)?;
@@ -154,7 +168,9 @@ pub(crate) fn substring_words<F: Fn(&mut Tokens<'_>, &mut u32) -> Result<Boxed<E
 ) -> Result<Boxed<Expr>, Stop>
     requires callable { F.IsAlwaysCallable nest.now.expression }
     requires reads { Reads (read_inside nest.now.depth) (F.post nest.now.expression) }
-    ensures { GivesCounted (read_given (λ p. e.Substring text p.0 p.1) (read_substring_words (room_of nest.now.depth) (read_inside nest.now.depth)) primaries.old tokens.old.symbols) result primaries.new tokens.new.symbols }
+    ensures { GivesCounted
+        (read_given (λ p. e.Substring text p.0 p.1) (read_substring_words (room_of nest.now.depth) (read_inside nest.now.depth))
+        primaries.old tokens.old.symbols) result primaries.new tokens.new.symbols }
 {
     expect(tokens, Class::From)?;
     let start = inside(nest, tokens, primaries)?;
@@ -171,7 +187,9 @@ pub(crate) fn substring_rest<F: Fn(&mut Tokens<'_>, &mut u32) -> Result<Boxed<Ex
 ) -> Result<Boxed<Expr>, Stop>
     requires callable { F.IsAlwaysCallable nest.now.expression }
     requires reads { Reads (read_inside nest.now.depth) (F.post nest.now.expression) }
-    ensures { GivesCounted (read_substring_rest (room_of nest.now.depth) (read_inside nest.now.depth) primaries.old tokens.old.symbols) result primaries.new tokens.new.symbols }
+    ensures { GivesCounted
+        (read_substring_rest (room_of nest.now.depth) (read_inside nest.now.depth)
+        primaries.old tokens.old.symbols) result primaries.new tokens.new.symbols }
 {
     let text = inside(nest, tokens, primaries)?;
     if sees(tokens, Class::Comma) {
@@ -191,7 +209,9 @@ pub(crate) fn trim_from<F: Fn(&mut Tokens<'_>, &mut u32) -> Result<Boxed<Expr>, 
 ) -> Result<Boxed<Expr>, Stop>
     requires callable { F.IsAlwaysCallable nest.now.expression }
     requires reads { Reads (read_inside nest.now.depth) (F.post nest.now.expression) }
-    ensures { GivesCounted (read_trim_from (room_of nest.now.depth) (read_inside nest.now.depth) (Some side) set primaries.old tokens.old.symbols) result primaries.new tokens.new.symbols }
+    ensures { GivesCounted
+        (read_trim_from (room_of nest.now.depth) (read_inside nest.now.depth) (Some side) set
+        primaries.old tokens.old.symbols) result primaries.new tokens.new.symbols }
 {
     expect(tokens, Class::From)?;
     let text = inside(nest, tokens, primaries)?;
@@ -208,7 +228,9 @@ pub(crate) fn trim_set<F: Fn(&mut Tokens<'_>, &mut u32) -> Result<Boxed<Expr>, S
 ) -> Result<Boxed<Expr>, Stop>
     requires callable { F.IsAlwaysCallable nest.now.expression }
     requires reads { Reads (read_inside nest.now.depth) (F.post nest.now.expression) }
-    ensures { GivesCounted (read_trim_set (room_of nest.now.depth) (read_inside nest.now.depth) side primaries.old tokens.old.symbols) result primaries.new tokens.new.symbols }
+    ensures { GivesCounted
+        (read_trim_set (room_of nest.now.depth) (read_inside nest.now.depth) side
+        primaries.old tokens.old.symbols) result primaries.new tokens.new.symbols }
 {
     if at_expression(tokens) {
         let set = inside(nest, tokens, primaries)?;
@@ -226,7 +248,9 @@ pub(crate) fn trim_plain<F: Fn(&mut Tokens<'_>, &mut u32) -> Result<Boxed<Expr>,
 ) -> Result<Boxed<Expr>, Stop>
     requires callable { F.IsAlwaysCallable nest.now.expression }
     requires reads { Reads (read_inside nest.now.depth) (F.post nest.now.expression) }
-    ensures { GivesCounted (read_trim_plain (room_of nest.now.depth) (read_inside nest.now.depth) primaries.old tokens.old.symbols) result primaries.new tokens.new.symbols }
+    ensures { GivesCounted
+        (read_trim_plain (room_of nest.now.depth) (read_inside nest.now.depth)
+        primaries.old tokens.old.symbols) result primaries.new tokens.new.symbols }
 {
     let first = inside(nest, tokens, primaries)?;
     if sees(tokens, Class::From) {
@@ -251,7 +275,9 @@ pub(crate) fn trim_rest<F: Fn(&mut Tokens<'_>, &mut u32) -> Result<Boxed<Expr>, 
 ) -> Result<Boxed<Expr>, Stop>
     requires callable { F.IsAlwaysCallable nest.now.expression }
     requires reads { Reads (read_inside nest.now.depth) (F.post nest.now.expression) }
-    ensures { GivesCounted (read_trim_rest (room_of nest.now.depth) (read_inside nest.now.depth) primaries.old tokens.old.symbols) result primaries.new tokens.new.symbols }
+    ensures { GivesCounted
+        (read_trim_rest (room_of nest.now.depth) (read_inside nest.now.depth)
+        primaries.old tokens.old.symbols) result primaries.new tokens.new.symbols }
 {
     if is_side(tokens.class()) {
         let side = side(tokens)?;
@@ -272,7 +298,9 @@ pub(crate) fn extract_rest<F: Fn(&mut Tokens<'_>, &mut u32) -> Result<Boxed<Expr
 ) -> Result<Boxed<Expr>, Stop>
     requires callable { F.IsAlwaysCallable nest.now.expression }
     requires reads { Reads (read_inside nest.now.depth) (F.post nest.now.expression) }
-    ensures { GivesCounted (read_extract_rest (room_of nest.now.depth) (read_inside nest.now.depth) primaries.old tokens.old.symbols) result primaries.new tokens.new.symbols }
+    ensures { GivesCounted
+        (read_extract_rest (room_of nest.now.depth) (read_inside nest.now.depth)
+        primaries.old tokens.old.symbols) result primaries.new tokens.new.symbols }
 {
     let part = stamp_part(tokens)?;
     expect(tokens, Class::From)?;
@@ -289,7 +317,9 @@ pub(crate) fn date_add_rest<F: Fn(&mut Tokens<'_>, &mut u32) -> Result<Boxed<Exp
 ) -> Result<Boxed<Expr>, Stop>
     requires callable { F.IsAlwaysCallable nest.now.expression }
     requires reads { Reads (read_inside nest.now.depth) (F.post nest.now.expression) }
-    ensures { GivesCounted (read_date_add_rest (room_of nest.now.depth) (read_inside nest.now.depth) primaries.old tokens.old.symbols) result primaries.new tokens.new.symbols }
+    ensures { GivesCounted
+        (read_date_add_rest (room_of nest.now.depth) (read_inside nest.now.depth)
+        primaries.old tokens.old.symbols) result primaries.new tokens.new.symbols }
 {
     let part = date_part(tokens)?;
     expect(tokens, Class::Comma)?;
@@ -320,7 +350,9 @@ pub(crate) fn simple_rest<F: Fn(&mut Tokens<'_>, &mut u32) -> Result<Boxed<Expr>
 ) -> Result<Boxed<Expr>, Stop>
     requires callable { F.IsAlwaysCallable nest.now.expression }
     requires reads { Reads (read_inside nest.now.depth) (F.post nest.now.expression) }
-    ensures { GivesCounted (read_given (simple_node class) (read_inside nest.now.depth) primaries.old tokens.old.symbols) result primaries.new tokens.new.symbols }
+    ensures { GivesCounted
+        (read_given (simple_node class) (read_inside nest.now.depth)
+        primaries.old tokens.old.symbols) result primaries.new tokens.new.symbols }
 {
     let value = inside(nest, tokens, primaries)?;
     Ok(Boxed::new(nest.alloc, simple_node(class, value))?)
@@ -335,7 +367,9 @@ pub(crate) fn arguments<F: Fn(&mut Tokens<'_>, &mut u32) -> Result<Boxed<Expr>, 
 ) -> Result<Boxed<Expr>, Stop>
     requires callable { F.IsAlwaysCallable nest.now.expression }
     requires reads { Reads (read_inside nest.now.depth) (F.post nest.now.expression) }
-    ensures { GivesCounted (read_arguments (room_of nest.now.depth) (read_inside nest.now.depth) class primaries.old tokens.old.symbols) result primaries.new tokens.new.symbols }
+    ensures { GivesCounted
+        (read_arguments (room_of nest.now.depth) (read_inside nest.now.depth) class
+        primaries.old tokens.old.symbols) result primaries.new tokens.new.symbols }
 {
     match class {
         Class::Cast => cast_rest(nest, tokens, primaries),
@@ -360,7 +394,9 @@ pub(crate) fn function<F: Fn(&mut Tokens<'_>, &mut u32) -> Result<Boxed<Expr>, S
     requires callable { F.IsAlwaysCallable nest.now.expression }
     requires reads { Reads (read_inside nest.now.depth) (F.post nest.now.expression) }
     requires token { is_token class ≡ true }
-    ensures { GivesCounted (read_function (room_of nest.now.depth).here class (read_arguments (room_of nest.now.depth) (read_inside nest.now.depth) class) primaries.old tokens.old.symbols) result primaries.new tokens.new.symbols }
+    ensures { GivesCounted
+        (read_function (room_of nest.now.depth).here class (read_arguments (room_of nest.now.depth) (read_inside nest.now.depth) class)
+        primaries.old tokens.old.symbols) result primaries.new tokens.new.symbols }
 {
     counted(tokens, primaries, class)?;
     open(tokens, nest.depth > 0)?;

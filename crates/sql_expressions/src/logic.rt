@@ -25,7 +25,9 @@ pub(crate) fn negation<F: Fn(&mut Tokens<'_>, &mut u32) -> Result<Boxed<Expr>, S
 ) -> Result<Boxed<Expr>, Stop>
     requires callable { F.IsAlwaysCallable nest.now.expression }
     requires reads { Reads (read_inside nest.now.depth) (F.post nest.now.expression) }
-    ensures { GivesCounted (read_negation (room_of nest.now.depth) (read_inside nest.now.depth) primaries.old tokens.old.symbols) result primaries.new tokens.new.symbols }
+    ensures { GivesCounted
+        (read_negation (room_of nest.now.depth) (read_inside nest.now.depth)
+        primaries.old tokens.old.symbols) result primaries.new tokens.new.symbols }
 {
     if sees(tokens, Class::Not) {
         tokens.skip();
@@ -44,7 +46,9 @@ pub(crate) fn and_part<F: Fn(&mut Tokens<'_>, &mut u32) -> Result<Boxed<Expr>, S
 ) -> Result<Boxed<Expr>, Stop>
     requires callable { F.IsAlwaysCallable nest.now.expression }
     requires reads { Reads (read_inside nest.now.depth) (F.post nest.now.expression) }
-    ensures { GivesCounted (read_counted_past (of k.And) (read_negation (room_of nest.now.depth) (read_inside nest.now.depth)) primaries.old tokens.old.symbols) result primaries.new tokens.new.symbols }
+    ensures { GivesCounted
+        (read_counted_past (of k.And) (read_negation (room_of nest.now.depth) (read_inside nest.now.depth))
+        primaries.old tokens.old.symbols) result primaries.new tokens.new.symbols }
 {
     expect(tokens, Class::And)?;
     let value = negation(nest, tokens, primaries)?;
@@ -82,7 +86,9 @@ pub(crate) fn conjunction_rest<F: Fn(&mut Tokens<'_>, &mut u32) -> Result<Boxed<
 ) -> Result<Boxed<Expr>, Stop>
     requires callable { F.IsAlwaysCallable nest.now.expression }
     requires reads { Reads (read_inside nest.now.depth) (F.post nest.now.expression) }
-    ensures { GivesCounted (read_links (and_node first) (of k.And) (read_counted_past (of k.And) (read_negation (room_of nest.now.depth) (read_inside nest.now.depth))) [] primaries.old tokens.old.symbols) result primaries.new tokens.new.symbols }
+    ensures { GivesCounted
+        (read_links (and_node first) (of k.And) (read_counted_past (of k.And) (read_negation (room_of nest.now.depth) (read_inside nest.now.depth))) []
+        primaries.old tokens.old.symbols) result primaries.new tokens.new.symbols }
 {
     let mut rest = Items::new(nest.alloc);
     'parts: while sees(tokens, Class::And) {
@@ -100,7 +106,9 @@ pub(crate) fn conjunction<F: Fn(&mut Tokens<'_>, &mut u32) -> Result<Boxed<Expr>
 ) -> Result<Boxed<Expr>, Stop>
     requires callable { F.IsAlwaysCallable nest.now.expression }
     requires reads { Reads (read_inside nest.now.depth) (F.post nest.now.expression) }
-    ensures { GivesCounted (read_conjunction (room_of nest.now.depth) (read_inside nest.now.depth) primaries.old tokens.old.symbols) result primaries.new tokens.new.symbols }
+    ensures { GivesCounted
+        (read_conjunction (room_of nest.now.depth) (read_inside nest.now.depth)
+        primaries.old tokens.old.symbols) result primaries.new tokens.new.symbols }
 {
     let first = negation(nest, tokens, primaries)?;
     conjunction_rest(nest, tokens, primaries, first)
@@ -114,7 +122,9 @@ pub(crate) fn or_part<F: Fn(&mut Tokens<'_>, &mut u32) -> Result<Boxed<Expr>, St
 ) -> Result<Boxed<Expr>, Stop>
     requires callable { F.IsAlwaysCallable nest.now.expression }
     requires reads { Reads (read_inside nest.now.depth) (F.post nest.now.expression) }
-    ensures { GivesCounted (read_counted_past (of k.Or) (read_conjunction (room_of nest.now.depth) (read_inside nest.now.depth)) primaries.old tokens.old.symbols) result primaries.new tokens.new.symbols }
+    ensures { GivesCounted
+        (read_counted_past (of k.Or) (read_conjunction (room_of nest.now.depth) (read_inside nest.now.depth))
+        primaries.old tokens.old.symbols) result primaries.new tokens.new.symbols }
 {
     expect(tokens, Class::Or)?;
     let value = conjunction(nest, tokens, primaries)?;
@@ -142,7 +152,9 @@ pub(crate) fn disjunction_rest<F: Fn(&mut Tokens<'_>, &mut u32) -> Result<Boxed<
 ) -> Result<Boxed<Expr>, Stop>
     requires callable { F.IsAlwaysCallable nest.now.expression }
     requires reads { Reads (read_inside nest.now.depth) (F.post nest.now.expression) }
-    ensures { GivesCounted (read_links (or_node first) (of k.Or) (read_counted_past (of k.Or) (read_conjunction (room_of nest.now.depth) (read_inside nest.now.depth))) [] primaries.old tokens.old.symbols) result primaries.new tokens.new.symbols }
+    ensures { GivesCounted
+        (read_links (or_node first) (of k.Or) (read_counted_past (of k.Or) (read_conjunction (room_of nest.now.depth) (read_inside nest.now.depth))) []
+        primaries.old tokens.old.symbols) result primaries.new tokens.new.symbols }
 {
     let mut rest = Items::new(nest.alloc);
     'parts: while sees(tokens, Class::Or) {
@@ -160,7 +172,9 @@ pub(crate) fn disjunction<F: Fn(&mut Tokens<'_>, &mut u32) -> Result<Boxed<Expr>
 ) -> Result<Boxed<Expr>, Stop>
     requires callable { F.IsAlwaysCallable nest.now.expression }
     requires reads { Reads (read_inside nest.now.depth) (F.post nest.now.expression) }
-    ensures { GivesCounted (read_disjunction (room_of nest.now.depth) (read_inside nest.now.depth) primaries.old tokens.old.symbols) result primaries.new tokens.new.symbols }
+    ensures { GivesCounted
+        (read_disjunction (room_of nest.now.depth) (read_inside nest.now.depth)
+        primaries.old tokens.old.symbols) result primaries.new tokens.new.symbols }
 {
     let first = conjunction(nest, tokens, primaries)?;
     disjunction_rest(nest, tokens, primaries, first)

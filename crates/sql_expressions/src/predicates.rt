@@ -36,7 +36,9 @@ pub(crate) fn compared<F: Fn(&mut Tokens<'_>, &mut u32) -> Result<Boxed<Expr>, S
 ) -> Result<Boxed<Expr>, Stop>
     requires callable { F.IsAlwaysCallable nest.now.expression }
     requires reads { Reads (read_inside nest.now.depth) (F.post nest.now.expression) }
-    ensures { GivesCounted (tailed value (read_comparison (room_of nest.now.depth) (read_inside nest.now.depth)) primaries.old tokens.old.symbols) result primaries.new tokens.new.symbols }
+    ensures { GivesCounted
+        (tailed value (read_comparison (room_of nest.now.depth) (read_inside nest.now.depth))
+        primaries.old tokens.old.symbols) result primaries.new tokens.new.symbols }
 {
     let op = comparison(tokens)?;
     let right = sum(nest, tokens, primaries)?;
@@ -61,7 +63,9 @@ pub(crate) fn between<F: Fn(&mut Tokens<'_>, &mut u32) -> Result<Boxed<Expr>, St
 ) -> Result<Boxed<Expr>, Stop>
     requires callable { F.IsAlwaysCallable nest.now.expression }
     requires reads { Reads (read_inside nest.now.depth) (F.post nest.now.expression) }
-    ensures { GivesCounted (tailed value (read_between (room_of nest.now.depth) (read_inside nest.now.depth) negated) primaries.old tokens.old.symbols) result primaries.new tokens.new.symbols }
+    ensures { GivesCounted
+        (tailed value (read_between (room_of nest.now.depth) (read_inside nest.now.depth) negated)
+        primaries.old tokens.old.symbols) result primaries.new tokens.new.symbols }
 {
     expect(tokens, Class::Between)?;
     let low = sum(nest, tokens, primaries)?;
@@ -108,7 +112,9 @@ pub(crate) fn member<F: Fn(&mut Tokens<'_>, &mut u32) -> Result<Boxed<Expr>, Sto
 ) -> Result<Boxed<Expr>, Stop>
     requires callable { F.IsAlwaysCallable nest.now.expression }
     requires reads { Reads (read_inside nest.now.depth) (F.post nest.now.expression) }
-    ensures { GivesCounted (read_item (λ s. over_class (room_of nest.now.depth).deeper (class s)) (read_inside nest.now.depth) (left.old, primaries.old) tokens.old.symbols) result (left.new, primaries.new) tokens.new.symbols }
+    ensures { GivesCounted
+        (read_item (λ s. over_class (room_of nest.now.depth).deeper (class s)) (read_inside nest.now.depth)
+        (left.old, primaries.old) tokens.old.symbols) result (left.new, primaries.new) tokens.new.symbols }
 {
     if *left == 0 {
         return Err(over_member(tokens.class(), nest.depth > 1));
@@ -127,7 +133,9 @@ pub(crate) fn next_member<F: Fn(&mut Tokens<'_>, &mut u32) -> Result<Boxed<Expr>
 ) -> Result<Boxed<Expr>, Stop>
     requires callable { F.IsAlwaysCallable nest.now.expression }
     requires reads { Reads (read_inside nest.now.depth) (F.post nest.now.expression) }
-    ensures { GivesCounted (read_counted_past (of k.Comma) (read_item (λ s. over_class (room_of nest.now.depth).deeper (class s)) (read_inside nest.now.depth)) (left.old, primaries.old) tokens.old.symbols) result (left.new, primaries.new) tokens.new.symbols }
+    ensures { GivesCounted
+        (read_counted_past (of k.Comma) (read_item (λ s. over_class (room_of nest.now.depth).deeper (class s)) (read_inside nest.now.depth))
+        (left.old, primaries.old) tokens.old.symbols) result (left.new, primaries.new) tokens.new.symbols }
 {
     expect(tokens, Class::Comma)?;
     let value = member(nest, tokens, primaries, left)?;
@@ -142,7 +150,9 @@ pub(crate) fn members<F: Fn(&mut Tokens<'_>, &mut u32) -> Result<Boxed<Expr>, St
 ) -> Result<Items<Expr>, Stop>
     requires callable { F.IsAlwaysCallable nest.now.expression }
     requires reads { Reads (read_inside nest.now.depth) (F.post nest.now.expression) }
-    ensures { GivesCounted (read_list_of 1000 (λ s. over_class (room_of nest.now.depth).deeper (class s)) (of k.Comma) (read_inside nest.now.depth) primaries.old tokens.old.symbols) result primaries.new tokens.new.symbols }
+    ensures { GivesCounted
+        (read_list_of 1000 (λ s. over_class (room_of nest.now.depth).deeper (class s)) (of k.Comma) (read_inside nest.now.depth)
+        primaries.old tokens.old.symbols) result primaries.new tokens.new.symbols }
 {
     let mut left = MAX_MEMBERS;
     let first = member(nest, tokens, primaries, &mut left)?;
@@ -166,7 +176,9 @@ pub(crate) fn among<F: Fn(&mut Tokens<'_>, &mut u32) -> Result<Boxed<Expr>, Stop
 ) -> Result<Boxed<Expr>, Stop>
     requires callable { F.IsAlwaysCallable nest.now.expression }
     requires reads { Reads (read_inside nest.now.depth) (F.post nest.now.expression) }
-    ensures { GivesCounted (tailed value (read_in_told (room_of nest.now.depth) (read_inside nest.now.depth) negated) primaries.old tokens.old.symbols) result primaries.new tokens.new.symbols }
+    ensures { GivesCounted
+        (tailed value (read_in_told (room_of nest.now.depth) (read_inside nest.now.depth) negated)
+        primaries.old tokens.old.symbols) result primaries.new tokens.new.symbols }
 {
     expect(tokens, Class::In)?;
     open(tokens, nest.depth > 0)?;
@@ -243,7 +255,9 @@ pub(crate) fn like<F: Fn(&mut Tokens<'_>, &mut u32) -> Result<Boxed<Expr>, Stop>
 ) -> Result<Boxed<Expr>, Stop>
     requires callable { F.IsAlwaysCallable nest.now.expression }
     requires reads { Reads (read_inside nest.now.depth) (F.post nest.now.expression) }
-    ensures { GivesCounted (tailed value (read_like (room_of nest.now.depth) (read_inside nest.now.depth) negated) primaries.old tokens.old.symbols) result primaries.new tokens.new.symbols }
+    ensures { GivesCounted
+        (tailed value (read_like (room_of nest.now.depth) (read_inside nest.now.depth) negated)
+        primaries.old tokens.old.symbols) result primaries.new tokens.new.symbols }
 {
     expect(tokens, Class::Like)?;
     let pattern = text(nest.alloc, tokens)?;
@@ -270,7 +284,9 @@ pub(crate) fn negatable<F: Fn(&mut Tokens<'_>, &mut u32) -> Result<Boxed<Expr>, 
 ) -> Result<Boxed<Expr>, Stop>
     requires callable { F.IsAlwaysCallable nest.now.expression }
     requires reads { Reads (read_inside nest.now.depth) (F.post nest.now.expression) }
-    ensures { GivesCounted (tailed value (read_negatable (room_of nest.now.depth) (read_inside nest.now.depth) negated) primaries.old tokens.old.symbols) result primaries.new tokens.new.symbols }
+    ensures { GivesCounted
+        (tailed value (read_negatable (room_of nest.now.depth) (read_inside nest.now.depth) negated)
+        primaries.old tokens.old.symbols) result primaries.new tokens.new.symbols }
 {
     if sees(tokens, Class::Between) {
         return between(nest, tokens, primaries, value, negated);
@@ -312,7 +328,9 @@ pub(crate) fn is_tail<F: Fn(&mut Tokens<'_>, &mut u32) -> Result<Boxed<Expr>, St
 ) -> Result<Boxed<Expr>, Stop>
     requires callable { F.IsAlwaysCallable nest.now.expression }
     requires reads { Reads (read_inside nest.now.depth) (F.post nest.now.expression) }
-    ensures { GivesCounted (tailed value (read_is (room_of nest.now.depth) (read_inside nest.now.depth)) primaries.old tokens.old.symbols) result primaries.new tokens.new.symbols }
+    ensures { GivesCounted
+        (tailed value (read_is (room_of nest.now.depth) (read_inside nest.now.depth))
+        primaries.old tokens.old.symbols) result primaries.new tokens.new.symbols }
 {
     expect(tokens, Class::Is)?;
     if sees(tokens, Class::Not) {
@@ -334,7 +352,9 @@ pub(crate) fn tail<F: Fn(&mut Tokens<'_>, &mut u32) -> Result<Boxed<Expr>, Stop>
 ) -> Result<Boxed<Expr>, Stop>
     requires callable { F.IsAlwaysCallable nest.now.expression }
     requires reads { Reads (read_inside nest.now.depth) (F.post nest.now.expression) }
-    ensures { GivesCounted (tailed value (read_tail (room_of nest.now.depth) (read_inside nest.now.depth)) primaries.old tokens.old.symbols) result primaries.new tokens.new.symbols }
+    ensures { GivesCounted
+        (tailed value (read_tail (room_of nest.now.depth) (read_inside nest.now.depth))
+        primaries.old tokens.old.symbols) result primaries.new tokens.new.symbols }
 {
     if is_compare_op(tokens.class()) {
         return compared(nest, tokens, primaries, value);
@@ -358,7 +378,9 @@ pub(crate) fn pred<F: Fn(&mut Tokens<'_>, &mut u32) -> Result<Boxed<Expr>, Stop>
 ) -> Result<Boxed<Expr>, Stop>
     requires callable { F.IsAlwaysCallable nest.now.expression }
     requires reads { Reads (read_inside nest.now.depth) (F.post nest.now.expression) }
-    ensures { GivesCounted (read_pred (room_of nest.now.depth) (read_inside nest.now.depth) primaries.old tokens.old.symbols) result primaries.new tokens.new.symbols }
+    ensures { GivesCounted
+        (read_pred (room_of nest.now.depth) (read_inside nest.now.depth)
+        primaries.old tokens.old.symbols) result primaries.new tokens.new.symbols }
 {
     let value = sum(nest, tokens, primaries)?;
     if !begins_tail(tokens.class()) {

@@ -27,7 +27,9 @@ pub(crate) fn group<F: Fn(&mut Tokens<'_>, &mut u32) -> Result<Boxed<Expr>, Stop
 ) -> Result<Boxed<Expr>, Stop>
     requires callable { F.IsAlwaysCallable nest.now.expression }
     requires reads { Reads (read_inside nest.now.depth) (F.post nest.now.expression) }
-    ensures { GivesCounted (read_bracketed (room_of nest.now.depth).here (read_inside nest.now.depth) primaries.old tokens.old.symbols) result primaries.new tokens.new.symbols }
+    ensures { GivesCounted
+        (read_bracketed (room_of nest.now.depth).here (read_inside nest.now.depth)
+        primaries.old tokens.old.symbols) result primaries.new tokens.new.symbols }
 {
     counted_open(tokens, primaries, Class::LeftParenthesis, nest.depth > 0)?;
     let value = inside(nest, tokens, primaries)?;
@@ -44,7 +46,9 @@ pub(crate) fn arm<F: Fn(&mut Tokens<'_>, &mut u32) -> Result<Boxed<Expr>, Stop>>
 ) -> Result<Arm, Stop>
     requires callable { F.IsAlwaysCallable nest.now.expression }
     requires reads { Reads (read_inside nest.now.depth) (F.post nest.now.expression) }
-    ensures { GivesCounted (read_arm (room_of nest.now.depth) (read_inside nest.now.depth) primaries.old tokens.old.symbols) result primaries.new tokens.new.symbols }
+    ensures { GivesCounted
+        (read_arm (room_of nest.now.depth) (read_inside nest.now.depth)
+        primaries.old tokens.old.symbols) result primaries.new tokens.new.symbols }
 {
     expect(tokens, Class::When)?;
     let when = inside(nest, tokens, primaries)?;
@@ -64,7 +68,9 @@ pub(crate) fn arms<F: Fn(&mut Tokens<'_>, &mut u32) -> Result<Boxed<Expr>, Stop>
 ) -> Result<Items<Arm>, Stop>
     requires callable { F.IsAlwaysCallable nest.now.expression }
     requires reads { Reads (read_inside nest.now.depth) (F.post nest.now.expression) }
-    ensures { GivesCounted (read_arms (room_of nest.now.depth) (read_inside nest.now.depth) primaries.old tokens.old.symbols) result primaries.new tokens.new.symbols }
+    ensures { GivesCounted
+        (read_arms (room_of nest.now.depth) (read_inside nest.now.depth)
+        primaries.old tokens.old.symbols) result primaries.new tokens.new.symbols }
 {
     let first = arm(nest, tokens, primaries)?;
     let mut all = Items::new(nest.alloc);
@@ -84,7 +90,9 @@ pub(crate) fn otherwise<F: Fn(&mut Tokens<'_>, &mut u32) -> Result<Boxed<Expr>, 
 ) -> Result<Option<Boxed<Expr>>, Stop>
     requires callable { F.IsAlwaysCallable nest.now.expression }
     requires reads { Reads (read_inside nest.now.depth) (F.post nest.now.expression) }
-    ensures { GivesCounted (read_otherwise (room_of nest.now.depth) (read_inside nest.now.depth) primaries.old tokens.old.symbols) result primaries.new tokens.new.symbols }
+    ensures { GivesCounted
+        (read_otherwise (room_of nest.now.depth) (read_inside nest.now.depth)
+        primaries.old tokens.old.symbols) result primaries.new tokens.new.symbols }
 {
     let value = maybe_behind(nest, tokens, primaries, Class::Else)?;
     expect(tokens, Class::End)?;
@@ -99,7 +107,9 @@ pub(crate) fn operand<F: Fn(&mut Tokens<'_>, &mut u32) -> Result<Boxed<Expr>, St
 ) -> Result<Option<Boxed<Expr>>, Stop>
     requires callable { F.IsAlwaysCallable nest.now.expression }
     requires reads { Reads (read_inside nest.now.depth) (F.post nest.now.expression) }
-    ensures { GivesCounted (read_maybe (begins begins_expression) (read_inside nest.now.depth) primaries.old tokens.old.symbols) result primaries.new tokens.new.symbols }
+    ensures { GivesCounted
+        (read_maybe (begins begins_expression) (read_inside nest.now.depth)
+        primaries.old tokens.old.symbols) result primaries.new tokens.new.symbols }
 {
     if !at_expression(tokens) {
         return Ok(None);
@@ -117,7 +127,9 @@ pub(crate) fn case_rest<F: Fn(&mut Tokens<'_>, &mut u32) -> Result<Boxed<Expr>, 
 ) -> Result<Boxed<Expr>, Stop>
     requires callable { F.IsAlwaysCallable nest.now.expression }
     requires reads { Reads (read_inside nest.now.depth) (F.post nest.now.expression) }
-    ensures { GivesCounted (read_case_rest (room_of nest.now.depth) (read_inside nest.now.depth) primaries.old tokens.old.symbols) result primaries.new tokens.new.symbols }
+    ensures { GivesCounted
+        (read_case_rest (room_of nest.now.depth) (read_inside nest.now.depth)
+        primaries.old tokens.old.symbols) result primaries.new tokens.new.symbols }
 {
     let operand = operand(nest, tokens, primaries)?;
     let arms = arms(nest, tokens, primaries)?;
@@ -141,7 +153,9 @@ pub(crate) fn case<F: Fn(&mut Tokens<'_>, &mut u32) -> Result<Boxed<Expr>, Stop>
 ) -> Result<Boxed<Expr>, Stop>
     requires callable { F.IsAlwaysCallable nest.now.expression }
     requires reads { Reads (read_inside nest.now.depth) (F.post nest.now.expression) }
-    ensures { GivesCounted (read_case_told (room_of nest.now.depth).here (read_case_rest (room_of nest.now.depth) (read_inside nest.now.depth)) primaries.old tokens.old.symbols) result primaries.new tokens.new.symbols }
+    ensures { GivesCounted
+        (read_case_told (room_of nest.now.depth).here (read_case_rest (room_of nest.now.depth) (read_inside nest.now.depth))
+        primaries.old tokens.old.symbols) result primaries.new tokens.new.symbols }
 {
     counted_open(tokens, primaries, Class::Case, nest.depth > 0)?;
     let value = case_rest(nest, tokens, primaries)?;
@@ -205,7 +219,9 @@ pub(crate) fn primary<F: Fn(&mut Tokens<'_>, &mut u32) -> Result<Boxed<Expr>, St
 ) -> Result<Boxed<Expr>, Stop>
     requires callable { F.IsAlwaysCallable nest.now.expression }
     requires reads { Reads (read_inside nest.now.depth) (F.post nest.now.expression) }
-    ensures { GivesCounted (read_primary (room_of nest.now.depth) (read_inside nest.now.depth) primaries.old tokens.old.symbols) result primaries.new tokens.new.symbols }
+    ensures { GivesCounted
+        (read_primary (room_of nest.now.depth) (read_inside nest.now.depth)
+        primaries.old tokens.old.symbols) result primaries.new tokens.new.symbols }
 {
     let class = tokens.class();
     if is_path_name(class) {

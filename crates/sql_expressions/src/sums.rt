@@ -25,7 +25,9 @@ pub(crate) fn unary<F: Fn(&mut Tokens<'_>, &mut u32) -> Result<Boxed<Expr>, Stop
 ) -> Result<Boxed<Expr>, Stop>
     requires callable { F.IsAlwaysCallable nest.now.expression }
     requires reads { Reads (read_inside nest.now.depth) (F.post nest.now.expression) }
-    ensures { GivesCounted (read_unary (room_of nest.now.depth) (read_inside nest.now.depth) primaries.old tokens.old.symbols) result primaries.new tokens.new.symbols }
+    ensures { GivesCounted
+        (read_unary (room_of nest.now.depth) (read_inside nest.now.depth)
+        primaries.old tokens.old.symbols) result primaries.new tokens.new.symbols }
 {
     if sees(tokens, Class::Minus) {
         tokens.skip();
@@ -45,7 +47,9 @@ pub(crate) fn prod_part<F: Fn(&mut Tokens<'_>, &mut u32) -> Result<Boxed<Expr>, 
 ) -> Result<ProdPart, Stop>
     requires callable { F.IsAlwaysCallable nest.now.expression }
     requires reads { Reads (read_inside nest.now.depth) (F.post nest.now.expression) }
-    ensures { GivesCounted (read_prod_part (room_of nest.now.depth) (read_inside nest.now.depth) primaries.old tokens.old.symbols) result primaries.new tokens.new.symbols }
+    ensures { GivesCounted
+        (read_prod_part (room_of nest.now.depth) (read_inside nest.now.depth)
+        primaries.old tokens.old.symbols) result primaries.new tokens.new.symbols }
 {
     let op = prod_sign(tokens)?;
     let member = unary(nest, tokens, primaries)?;
@@ -79,7 +83,9 @@ pub(crate) fn prod_rest<F: Fn(&mut Tokens<'_>, &mut u32) -> Result<Boxed<Expr>, 
 ) -> Result<Boxed<Expr>, Stop>
     requires callable { F.IsAlwaysCallable nest.now.expression }
     requires reads { Reads (read_inside nest.now.depth) (F.post nest.now.expression) }
-    ensures { GivesCounted (read_links (prod_node first) (begins is_prod_op) (read_prod_part (room_of nest.now.depth) (read_inside nest.now.depth)) [] primaries.old tokens.old.symbols) result primaries.new tokens.new.symbols }
+    ensures { GivesCounted
+        (read_links (prod_node first) (begins is_prod_op) (read_prod_part (room_of nest.now.depth) (read_inside nest.now.depth)) []
+        primaries.old tokens.old.symbols) result primaries.new tokens.new.symbols }
 {
     let mut rest = Items::new(nest.alloc);
     'parts: while is_prod_op(tokens.class()) {
@@ -97,7 +103,9 @@ pub(crate) fn prod<F: Fn(&mut Tokens<'_>, &mut u32) -> Result<Boxed<Expr>, Stop>
 ) -> Result<Boxed<Expr>, Stop>
     requires callable { F.IsAlwaysCallable nest.now.expression }
     requires reads { Reads (read_inside nest.now.depth) (F.post nest.now.expression) }
-    ensures { GivesCounted (read_prod (room_of nest.now.depth) (read_inside nest.now.depth) primaries.old tokens.old.symbols) result primaries.new tokens.new.symbols }
+    ensures { GivesCounted
+        (read_prod (room_of nest.now.depth) (read_inside nest.now.depth)
+        primaries.old tokens.old.symbols) result primaries.new tokens.new.symbols }
 {
     let first = unary(nest, tokens, primaries)?;
     prod_rest(nest, tokens, primaries, first)
@@ -112,7 +120,9 @@ pub(crate) fn sum_part<F: Fn(&mut Tokens<'_>, &mut u32) -> Result<Boxed<Expr>, S
 ) -> Result<SumPart, Stop>
     requires callable { F.IsAlwaysCallable nest.now.expression }
     requires reads { Reads (read_inside nest.now.depth) (F.post nest.now.expression) }
-    ensures { GivesCounted (read_sum_part (room_of nest.now.depth) (read_inside nest.now.depth) primaries.old tokens.old.symbols) result primaries.new tokens.new.symbols }
+    ensures { GivesCounted
+        (read_sum_part (room_of nest.now.depth) (read_inside nest.now.depth)
+        primaries.old tokens.old.symbols) result primaries.new tokens.new.symbols }
 {
     let op = sum_sign(tokens)?;
     let member = prod(nest, tokens, primaries)?;
@@ -146,7 +156,9 @@ pub(crate) fn sum_rest<F: Fn(&mut Tokens<'_>, &mut u32) -> Result<Boxed<Expr>, S
 ) -> Result<Boxed<Expr>, Stop>
     requires callable { F.IsAlwaysCallable nest.now.expression }
     requires reads { Reads (read_inside nest.now.depth) (F.post nest.now.expression) }
-    ensures { GivesCounted (read_links (sum_node first) (begins is_sum_op) (read_sum_part (room_of nest.now.depth) (read_inside nest.now.depth)) [] primaries.old tokens.old.symbols) result primaries.new tokens.new.symbols }
+    ensures { GivesCounted
+        (read_links (sum_node first) (begins is_sum_op) (read_sum_part (room_of nest.now.depth) (read_inside nest.now.depth)) []
+        primaries.old tokens.old.symbols) result primaries.new tokens.new.symbols }
 {
     let mut rest = Items::new(nest.alloc);
     'parts: while is_sum_op(tokens.class()) {
@@ -164,7 +176,9 @@ pub(crate) fn sum<F: Fn(&mut Tokens<'_>, &mut u32) -> Result<Boxed<Expr>, Stop>>
 ) -> Result<Boxed<Expr>, Stop>
     requires callable { F.IsAlwaysCallable nest.now.expression }
     requires reads { Reads (read_inside nest.now.depth) (F.post nest.now.expression) }
-    ensures { GivesCounted (read_sum (room_of nest.now.depth) (read_inside nest.now.depth) primaries.old tokens.old.symbols) result primaries.new tokens.new.symbols }
+    ensures { GivesCounted
+        (read_sum (room_of nest.now.depth) (read_inside nest.now.depth)
+        primaries.old tokens.old.symbols) result primaries.new tokens.new.symbols }
 {
     let first = prod(nest, tokens, primaries)?;
     sum_rest(nest, tokens, primaries, first)

@@ -33,7 +33,9 @@ pub fn counted(tokens: &mut Tokens<'_>, primaries: &mut u32, class: Class) -> Re
 
 /// Passes a text, which counts as a primary.
 pub fn text(alloc: Global, tokens: &mut Tokens<'_>, primaries: &mut u32) -> Result<Expr, Stop>
-    ensures { GivesCounted (read_literal (same_class k.Text) (λ s. e.Text (text_in s.token)) primaries.old tokens.old.symbols) result primaries.new tokens.new.symbols }
+    ensures { GivesCounted
+        (read_literal (same_class k.Text) (λ s. e.Text (text_in s.token))
+        primaries.old tokens.old.symbols) result primaries.new tokens.new.symbols }
 {
     if !sees(tokens, Class::Text) {
         return Err(Stop::Refused);
@@ -49,7 +51,9 @@ pub fn text(alloc: Global, tokens: &mut Tokens<'_>, primaries: &mut u32) -> Resu
 
 /// Passes a number without an exponent, which counts as a primary.
 pub fn number(tokens: &mut Tokens<'_>, primaries: &mut u32) -> Result<Expr, Stop>
-    ensures { GivesCounted (read_literal is_number (λ s. e.Number (number_in s.token)) primaries.old tokens.old.symbols) result primaries.new tokens.new.symbols }
+    ensures { GivesCounted
+        (read_literal is_number (λ s. e.Number (number_in s.token))
+        primaries.old tokens.old.symbols) result primaries.new tokens.new.symbols }
 {
     if !is_number(tokens.class()) {
         return Err(Stop::Refused);
@@ -73,7 +77,9 @@ pub fn counted_open(
     room: bool,
 ) -> Result<(), Stop>
     requires { is_token class ≡ true }
-    ensures { GivesCounted (read_counted_open room class primaries.old tokens.old.symbols) result primaries.new tokens.new.symbols }
+    ensures { GivesCounted
+        (read_counted_open room class
+        primaries.old tokens.old.symbols) result primaries.new tokens.new.symbols }
 {
     if !sees(tokens, class) {
         return Err(Stop::Refused);

@@ -30,7 +30,9 @@ pub fn inside<F: Fn(&mut Tokens<'_>, &mut u32) -> Result<Boxed<Expr>, Stop>>(
 ) -> Result<Boxed<Expr>, Stop>
     requires callable { F.IsAlwaysCallable nest.now.expression }
     requires reads { Reads (read_inside nest.now.depth) (F.post nest.now.expression) }
-    ensures { GivesCounted ((read_inside nest.now.depth) primaries.old tokens.old.symbols) result primaries.new tokens.new.symbols }
+    ensures { GivesCounted
+        ((read_inside nest.now.depth)
+        primaries.old tokens.old.symbols) result primaries.new tokens.new.symbols }
 {
     (nest.expression)(tokens, primaries)
 }
@@ -45,7 +47,9 @@ pub fn behind<F: Fn(&mut Tokens<'_>, &mut u32) -> Result<Boxed<Expr>, Stop>>(
     requires callable { F.IsAlwaysCallable nest.now.expression }
     requires reads { Reads (read_inside nest.now.depth) (F.post nest.now.expression) }
     requires token { is_token class ≡ true }
-    ensures { GivesCounted (read_counted_past (of class) (read_inside nest.now.depth) primaries.old tokens.old.symbols) result primaries.new tokens.new.symbols }
+    ensures { GivesCounted
+        (read_counted_past (of class) (read_inside nest.now.depth)
+        primaries.old tokens.old.symbols) result primaries.new tokens.new.symbols }
 {
     expect(tokens, class)?;
     let value = inside(nest, tokens, primaries)?;

@@ -80,14 +80,14 @@ by_4096 c = sym (div-div-eq-div-mul c 4096 64)
 pub char_again : (c : ℕ) → chars (encode_utf8 c) ≡ c ∷ []
 unfolding encode_utf8
 char_again c =
-    let P1 : Bool → Type 0 = λ t. nat_lt c 128 ≡ t → chars (cond t (c ∷ []) (cond (nat_lt c 2048) ((192 + c / 64) ∷ (128 + c % 64) ∷ []) (cond (nat_lt c 65536) ((224 + c / 4096) ∷ (128 + c / 64 % 64) ∷ (128 + c % 64) ∷ []) ((240 + c / 262144) ∷ (128 + c / 4096 % 64) ∷ (128 + c / 64 % 64) ∷ (128 + c % 64) ∷ [])))) ≡ c ∷ [] in
-    let P2 : Bool → Type 0 = λ t. nat_lt c 2048 ≡ t → chars (cond t ((192 + c / 64) ∷ (128 + c % 64) ∷ []) (cond (nat_lt c 65536) ((224 + c / 4096) ∷ (128 + c / 64 % 64) ∷ (128 + c % 64) ∷ []) ((240 + c / 262144) ∷ (128 + c / 4096 % 64) ∷ (128 + c / 64 % 64) ∷ (128 + c % 64) ∷ []))) ≡ c ∷ [] in
-    let P3 : Bool → Type 0 = λ t. nat_lt c 65536 ≡ t → chars (cond t ((224 + c / 4096) ∷ (128 + c / 64 % 64) ∷ (128 + c % 64) ∷ []) ((240 + c / 262144) ∷ (128 + c / 4096 % 64) ∷ (128 + c / 64 % 64) ∷ (128 + c % 64) ∷ [])) ≡ c ∷ [] in
-    (elim (nat_lt c 128) as P1 [
+    let OneByte : Bool → Type 0 = λ t. nat_lt c 128 ≡ t → chars (cond t (c ∷ []) (cond (nat_lt c 2048) ((192 + c / 64) ∷ (128 + c % 64) ∷ []) (cond (nat_lt c 65536) ((224 + c / 4096) ∷ (128 + c / 64 % 64) ∷ (128 + c % 64) ∷ []) ((240 + c / 262144) ∷ (128 + c / 4096 % 64) ∷ (128 + c / 64 % 64) ∷ (128 + c % 64) ∷ [])))) ≡ c ∷ [] in
+    let TwoBytes : Bool → Type 0 = λ t. nat_lt c 2048 ≡ t → chars (cond t ((192 + c / 64) ∷ (128 + c % 64) ∷ []) (cond (nat_lt c 65536) ((224 + c / 4096) ∷ (128 + c / 64 % 64) ∷ (128 + c % 64) ∷ []) ((240 + c / 262144) ∷ (128 + c / 4096 % 64) ∷ (128 + c / 64 % 64) ∷ (128 + c % 64) ∷ []))) ≡ c ∷ [] in
+    let ThreeBytes : Bool → Type 0 = λ t. nat_lt c 65536 ≡ t → chars (cond t ((224 + c / 4096) ∷ (128 + c / 64 % 64) ∷ (128 + c % 64) ∷ []) ((240 + c / 262144) ∷ (128 + c / 4096 % 64) ∷ (128 + c / 64 % 64) ∷ (128 + c % 64) ∷ [])) ≡ c ∷ [] in
+    (elim (nat_lt c 128) as OneByte [
       | true ↦ λ t. one c (below c 128 t)
-      | false ↦ λ t. (elim (nat_lt c 2048) as P2 [
+      | false ↦ λ t. (elim (nat_lt c 2048) as TwoBytes [
         | true ↦ λ u. two (192 + c / 64) (128 + c % 64) c (omega arith) (in_two c (below c 2048 u)) (again_two c)
-        | false ↦ λ u. (elim (nat_lt c 65536) as P3 [
+        | false ↦ λ u. (elim (nat_lt c 65536) as ThreeBytes [
           | true ↦ λ v. three (224 + c / 4096) (128 + c / 64 % 64) (128 + c % 64) c (omega arith) (in_three c (below c 65536 v)) (again_three c (c / 64) refl (by_64 c))
           | false ↦ λ v. four (240 + c / 262144) (128 + c / 4096 % 64) (128 + c / 64 % 64) (128 + c % 64) c (omega arith) (again_four c (c / 64) (c / 4096) refl refl (by_64 c) (by_4096 c))
         ]) refl

@@ -1,5 +1,8 @@
-use Rattle.select_engine.proofs.TilingLaws.{each_tiling_joins}
+use Rattle.select_engine.proofs.TilingLaws.{each_tiling_joins, each_tiling_makes_the_whole}
 use Rattle.select_engine.proofs.laws.tiles_have_each_record_once.Goals as goal
 
-pub returns : goal.returns
-returns c = each_tiling_joins c.adjacent_ranges_append.ensures.cuts
+pub returns-clause-join : goal.returns-clause-join
+returns-clause-join c = each_tiling_joins c.adjacent_ranges_append.ensures.cuts
+
+pub returns-clause-whole : goal.returns-clause-whole
+returns-clause-whole c = each_tiling_makes_the_whole c.adjacent_ranges_append.ensures.cuts c.tiles_make_the_whole.ensures.join
