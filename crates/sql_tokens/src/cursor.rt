@@ -61,6 +61,18 @@ impl<'t> Cursor<'t> {
         }
     }
 
+    /// The same tokens once more.
+    pub(crate) fn again(&self) -> Cursor<'t>
+        ensures { result ≡ self.now }
+    {
+        Cursor {
+            sight: self.sight,
+            at: self.at,
+            next: self.next,
+            behind: self.behind,
+        }
+    }
+
     /// Passes the token in sight, where there is one.
     pub(crate) fn skip(&mut self)
         ensures { self.new ≡ behind_first self.old }

@@ -50,6 +50,16 @@ impl<'t> Tokens<'t> {
         Tokens { cursor, class }
     }
 
+    /// The same tokens once more, for a look ahead.
+    pub fn again(&self) -> Tokens<'t>
+        ensures { result ≡ self.now }
+    {
+        Tokens {
+            cursor: self.cursor.again(),
+            class: self.class,
+        }
+    }
+
     /// Passes the token in sight, where there is one.
     pub fn skip(&mut self)
         ensures { self.new ≡ behind_first self.old }
