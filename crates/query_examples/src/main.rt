@@ -4,22 +4,27 @@
 #![tactic(auto)]
 
 mod expressions;
+mod queries;
 
 use case_tables::{Row, Tell, tell_tables};
 use std::rt::Files;
 use std::test::Fail;
 
 /// The tables, in the order in which they are told, and what their rows are.
-const TABLES: [(&str, Kind); 3] = [
+const TABLES: [(&str, Kind); 6] = [
     ("expressions.tsv", Kind::Expressions),
     ("refused.tsv", Kind::Expressions),
     ("limits.tsv", Kind::Expressions),
+    ("queries.tsv", Kind::Queries),
+    ("refused_queries.tsv", Kind::Queries),
+    ("long_queries.tsv", Kind::Queries),
 ];
 
 /// What a row is.
 #[derive(Clone, Copy)]
 enum Kind {
     Expressions,
+    Queries,
 }
 
 impl Tell for Kind {
@@ -27,6 +32,7 @@ impl Tell for Kind {
         let alloc = rt.alloc();
         match self {
             Kind::Expressions => expressions::tell_expression(alloc, row),
+            Kind::Queries => queries::tell_query(alloc, row),
         }
     }
 }

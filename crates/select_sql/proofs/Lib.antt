@@ -1,0 +1,4 @@
+pub mod AnswerSteps
+pub mod EndSteps
+pub mod QuerySteps
+pub mod SelectSteps

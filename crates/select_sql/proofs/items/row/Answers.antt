@@ -1,0 +1,16 @@
+-- A value and its name.
+use Rattle.std.proofs.lemmas.Result.{err_from_is_err_and}
+use Rattle.sql_leaves.specs.Parsing.{fault_of}
+use Rattle.select_sql.proofs.QuerySteps.{row_unnamed, row_named}
+use Rattle.select_sql.proofs.items.row.Goals as goal
+
+pub returns-in_err-name : goal.returns-in_err-name
+returns-in_err-name c =
+    let p = err_from_is_err_and c.from_residual-in_err-name.result c.from_residual-in_err-name.ensures.1 in
+    let m = c.expression.new.primaries in
+    rw (p.1, p.2) (λ z. row_unnamed c.args.primaries.now c.args.tokens.now.symbols c.in_ok-expr.expr m c.expression.new.tokens.symbols c.in_ok-expr.ensures (fault_of c.in_err-name.field-0.0) c.as_name.new.tokens.symbols (c.in_err-name.ensures m z))
+
+pub returns : goal.returns
+returns c =
+    let m = c.expression.new.primaries in
+    rw c.into_inner.ensures (row_named c.args.primaries.now c.args.tokens.now.symbols c.in_ok-expr.expr m c.expression.new.tokens.symbols c.in_ok-expr.ensures c.in_ok-name.name c.as_name.new.tokens.symbols (c.in_ok-name.ensures m))
