@@ -1,5 +1,5 @@
 -- What is left of a text tells its fault and the place of the fault.
-use Rattle.std.proofs.Common.{◌≡◌, ◌≢◌, ℕ, ◌-◌, ◌<◌, ◌≤◌, Result, Err, Bool, true, false, List, [], ◌∷◌, ◌++◌, length, drop, Option, Some, None, refl, sym, ap, ◌∙◌, subst, if◌then◌else◌}
+use Rattle.std.proofs.Common.{◌≡◌, ◌≢◌, ℕ, ◌-◌, ◌<◌, ◌≤◌, Result, Ok, Err, IfOk, Bool, true, false, List, [], ◌∷◌, ◌++◌, length, drop, Option, Some, None, refl, sym, ap, ◌∙◌, subst, if◌then◌else◌}
 use Rattle.sql_tokens.specs.declared.class.Class.{Class}
 use Rattle.sql_tokens.specs.declared.class.Class.TheVariants as k
 use Rattle.sql_tokens.specs.Classes.{same_class}
@@ -19,6 +19,9 @@ use Rattle.sql_grammar.specs.Queries.{Written, query}
 use Rattle.sql_grammar.specs.QueryReaders.{is_agg, read_whole_query, read_query}
 use Rattle.sql_grammar.specs.Faults.{names_source, query_of, misplaced, code_of, longest, place_of, IsCut, IsWritten, Spells, FaultOf, is_too_long, is_unfit, is_refused, is_other_name}
 use Rattle.sql_grammar.proofs.QueryReads.{reads-query, said}
+use Rattle.sql_lawful.specs.Lawful.{IsLawful}
+use Rattle.sql_lawful.specs.Depths.{IsShallow}
+use Rattle.sql_lawful.specs.Laws.{EachSpelledIsLawful, EachSpelledIsShallow}
 use Rattle.sql_leaves.specs.declared.stop.Stop.{Stop}
 use Rattle.sql_leaves.specs.declared.stop.Stop.TheVariants as stop
 use Rattle.sql_leaves.specs.Parsing.{fault_of}
@@ -165,3 +168,14 @@ too_long text h r fault told q = is_too_long h (refusal_is r fault (record { cod
 
 pub unfit : (text : List ℕ) (at : ℕ) → length text ≤ longest → lexer_fault text ≡ Some at → (r : ParseError) (fault : SqlError) → r ≡ error.Refused (record { code = code.Lexer; at = at }) → ◌≡◌ {A = Result Query ParseError} (Err r) (Err (error.Refused fault)) → FaultOf text fault
 unfit text at short h r fault told q = is_unfit at short h (refusal_is r fault (record { code = code.Lexer; at = at }) told q)
+
+-- ---- what is parsed is lawful
+
+module _ (text : List ℕ) where
+  pub parsed_lawful : EachSpelledIsLawful → (r : Result Query ParseError) → IfOk r (λ q. Spells text q) → IfOk r (λ q. IsLawful q)
+  parsed_lawful law (Ok q) h = law text q h
+  parsed_lawful law (Err e) h = h
+
+  pub parsed_shallow : EachSpelledIsShallow → (r : Result Query ParseError) → IfOk r (λ q. Spells text q) → IfOk r (λ q. IsShallow q)
+  parsed_shallow law (Ok q) h = law text q h
+  parsed_shallow law (Err e) h = h

@@ -68,44 +68,63 @@ module _ (n : ℕ) (ts : List Symbol) where
       by_test false = refl
 
 -- the form is this one
-is_form : AggForm → Option AggForm → Bool
-is_form form None = false
-is_form count_form (Some count_form) = true
-is_form sum_form (Some sum_form) = true
-is_form min_form (Some min_form) = true
-is_form max_form (Some max_form) = true
-is_form avg_form (Some avg_form) = true
-is_form _ (Some _) = false
+abbrev is_form : Option AggForm → AggForm → Bool
+is_form None form = false
+is_form (Some count_form) count_form = true
+is_form (Some count_form) sum_form = false
+is_form (Some count_form) min_form = false
+is_form (Some count_form) max_form = false
+is_form (Some count_form) avg_form = false
+is_form (Some sum_form) count_form = false
+is_form (Some sum_form) sum_form = true
+is_form (Some sum_form) min_form = false
+is_form (Some sum_form) max_form = false
+is_form (Some sum_form) avg_form = false
+is_form (Some min_form) count_form = false
+is_form (Some min_form) sum_form = false
+is_form (Some min_form) min_form = true
+is_form (Some min_form) max_form = false
+is_form (Some min_form) avg_form = false
+is_form (Some max_form) count_form = false
+is_form (Some max_form) sum_form = false
+is_form (Some max_form) min_form = false
+is_form (Some max_form) max_form = true
+is_form (Some max_form) avg_form = false
+is_form (Some avg_form) count_form = false
+is_form (Some avg_form) sum_form = false
+is_form (Some avg_form) min_form = false
+is_form (Some avg_form) max_form = false
+is_form (Some avg_form) avg_form = true
 
-form_is : (form : AggForm) (o : Option AggForm) → is_form form o ≡ true → o ≡ Some form
-form_is form None h = absurd cc
-form_is count_form (Some count_form) h = refl
-form_is sum_form (Some sum_form) h = refl
-form_is min_form (Some min_form) h = refl
-form_is max_form (Some max_form) h = refl
-form_is avg_form (Some avg_form) h = refl
-form_is count_form (Some sum_form) h = absurd cc
-form_is count_form (Some min_form) h = absurd cc
-form_is count_form (Some max_form) h = absurd cc
-form_is count_form (Some avg_form) h = absurd cc
-form_is sum_form (Some count_form) h = absurd cc
-form_is sum_form (Some min_form) h = absurd cc
-form_is sum_form (Some max_form) h = absurd cc
-form_is sum_form (Some avg_form) h = absurd cc
-form_is min_form (Some count_form) h = absurd cc
-form_is min_form (Some sum_form) h = absurd cc
-form_is min_form (Some max_form) h = absurd cc
-form_is min_form (Some avg_form) h = absurd cc
-form_is max_form (Some count_form) h = absurd cc
-form_is max_form (Some sum_form) h = absurd cc
-form_is max_form (Some min_form) h = absurd cc
-form_is max_form (Some avg_form) h = absurd cc
-form_is avg_form (Some count_form) h = absurd cc
-form_is avg_form (Some sum_form) h = absurd cc
-form_is avg_form (Some min_form) h = absurd cc
-form_is avg_form (Some max_form) h = absurd cc
+form_is : (o : Option AggForm) (form : AggForm) → is_form o form ≡ true → o ≡ Some form
+form_is None form h = absurd (not_true h)
+form_is (Some count_form) count_form h = refl
+form_is (Some count_form) sum_form h = absurd (not_true h)
+form_is (Some count_form) min_form h = absurd (not_true h)
+form_is (Some count_form) max_form h = absurd (not_true h)
+form_is (Some count_form) avg_form h = absurd (not_true h)
+form_is (Some sum_form) count_form h = absurd (not_true h)
+form_is (Some sum_form) sum_form h = refl
+form_is (Some sum_form) min_form h = absurd (not_true h)
+form_is (Some sum_form) max_form h = absurd (not_true h)
+form_is (Some sum_form) avg_form h = absurd (not_true h)
+form_is (Some min_form) count_form h = absurd (not_true h)
+form_is (Some min_form) sum_form h = absurd (not_true h)
+form_is (Some min_form) min_form h = refl
+form_is (Some min_form) max_form h = absurd (not_true h)
+form_is (Some min_form) avg_form h = absurd (not_true h)
+form_is (Some max_form) count_form h = absurd (not_true h)
+form_is (Some max_form) sum_form h = absurd (not_true h)
+form_is (Some max_form) min_form h = absurd (not_true h)
+form_is (Some max_form) max_form h = refl
+form_is (Some max_form) avg_form h = absurd (not_true h)
+form_is (Some avg_form) count_form h = absurd (not_true h)
+form_is (Some avg_form) sum_form h = absurd (not_true h)
+form_is (Some avg_form) min_form h = absurd (not_true h)
+form_is (Some avg_form) max_form h = absurd (not_true h)
+form_is (Some avg_form) avg_form h = refl
 
-same_form : (form : AggForm) → is_form form (Some form) ≡ true
+same_form : (form : AggForm) → is_form (Some form) form ≡ true
 same_form count_form = refl
 same_form sum_form = refl
 same_form min_form = refl
@@ -115,19 +134,19 @@ same_form avg_form = refl
 -- what a test of all classes says of one
 implied : (a b : Bool) → (not a || b) ≡ true → a ≡ true → b ≡ true
 implied true b h q = h
-implied false b h q = absurd cc
+implied false b h q = absurd (not_true q)
 
 -- a class of this form is that class
-not_here : (c : Class) (form : AggForm) → list_all (λ d. not (is_form form (agg_form d)) || same_class c d) all_classes ≡ true
+not_here : (c : Class) (form : AggForm) → list_all (λ d. not (is_form (agg_form d) form) || same_class c d) all_classes ≡ true
     → (d : Class) → agg_form d ≡ Some form → same_class c d ≡ false → ⊥
 not_here c form all d h other =
-    let p : same_class c d ≡ true = implied (is_form form (agg_form d)) (same_class c d) (every (λ x. not (is_form form (agg_form x)) || same_class c x) all d) (ap (is_form form) h ∙ same_form form) in
+    let p : same_class c d ≡ true = implied (is_form (agg_form d) form) (same_class c d) (every (λ x. not (is_form (agg_form x) form) || same_class c x) all d) (ap (λ o. is_form o form) h ∙ same_form form) in
     let q : true ≡ false = sym p ∙ other in cc
 
 -- the token in front begins the aggregate of this class
-any_of : (c : Class) (form : AggForm) → list_all (λ d. not (same_class c d) || is_form form (agg_form d)) all_classes ≡ true
+any_of : (c : Class) (form : AggForm) → list_all (λ d. not (same_class c d) || is_form (agg_form d) form) all_classes ≡ true
     → (s : Symbol) → same_class c (class s) ≡ true → agg_form (class s) ≡ Some form
-any_of c form all s h = form_is form (agg_form (class s)) (implied (same_class c (class s)) (is_form form (agg_form (class s))) (every (λ d. not (same_class c d) || is_form form (agg_form d)) all (class s)) h)
+any_of c form all s h = form_is (agg_form (class s)) form (implied (same_class c (class s)) (is_form (agg_form (class s)) form) (every (λ d. not (same_class c d) || is_form (agg_form d) form) all (class s)) h)
 
 any_by : (n : ℕ) (s : Symbol) (ts : List Symbol) (form : AggForm) → agg_form (class s) ≡ Some form → read_any_agg n (s ∷ ts) ≡ read_agg_of form n (s ∷ ts)
 unfolding read_any_agg
@@ -139,34 +158,34 @@ any_none n s ts h = rw h refl
 
 pub any_count : (n : ℕ) (ts : List Symbol) → starts (of k.CountCalled) ts ≡ true → read_any_agg n ts ≡ read_count_told n ts
 unfolding same_class
-any_count n [] q = absurd cc
+any_count n [] q = absurd (not_true q)
 any_count n (s ∷ ts) q = any_by n s ts count_form (any_of k.CountCalled count_form counts s q) ∙ count_is n (s ∷ ts)
   where
-    counts : list_all (λ d. not (same_class k.CountCalled d) || is_form count_form (agg_form d)) all_classes ≡ true
+    counts : list_all (λ d. not (same_class k.CountCalled d) || is_form (agg_form d) count_form) all_classes ≡ true
     counts = refl
 
 pub any_sum : (n : ℕ) (ts : List Symbol) → starts (of k.SumCalled) ts ≡ true → read_any_agg n ts ≡ read_aggregate_told k.SumCalled n ts
 unfolding same_class
-any_sum n [] q = absurd cc
+any_sum n [] q = absurd (not_true q)
 any_sum n (s ∷ ts) q = any_by n s ts sum_form (any_of k.SumCalled sum_form sums s q) ∙ aggregate_is n (s ∷ ts) k.SumCalled
   where
-    sums : list_all (λ d. not (same_class k.SumCalled d) || is_form sum_form (agg_form d)) all_classes ≡ true
+    sums : list_all (λ d. not (same_class k.SumCalled d) || is_form (agg_form d) sum_form) all_classes ≡ true
     sums = refl
 
 pub any_min : (n : ℕ) (ts : List Symbol) → starts (of k.MinCalled) ts ≡ true → read_any_agg n ts ≡ read_aggregate_told k.MinCalled n ts
 unfolding same_class
-any_min n [] q = absurd cc
+any_min n [] q = absurd (not_true q)
 any_min n (s ∷ ts) q = any_by n s ts min_form (any_of k.MinCalled min_form mins s q) ∙ aggregate_is n (s ∷ ts) k.MinCalled
   where
-    mins : list_all (λ d. not (same_class k.MinCalled d) || is_form min_form (agg_form d)) all_classes ≡ true
+    mins : list_all (λ d. not (same_class k.MinCalled d) || is_form (agg_form d) min_form) all_classes ≡ true
     mins = refl
 
 pub any_max : (n : ℕ) (ts : List Symbol) → starts (of k.MaxCalled) ts ≡ true → read_any_agg n ts ≡ read_aggregate_told k.MaxCalled n ts
 unfolding same_class
-any_max n [] q = absurd cc
+any_max n [] q = absurd (not_true q)
 any_max n (s ∷ ts) q = any_by n s ts max_form (any_of k.MaxCalled max_form maxes s q) ∙ aggregate_is n (s ∷ ts) k.MaxCalled
   where
-    maxes : list_all (λ d. not (same_class k.MaxCalled d) || is_form max_form (agg_form d)) all_classes ≡ true
+    maxes : list_all (λ d. not (same_class k.MaxCalled d) || is_form (agg_form d) max_form) all_classes ≡ true
     maxes = refl
 
 -- none of the first four, so the last one or none
@@ -176,7 +195,7 @@ any_last : (n : ℕ) (s : Symbol) (ts : List Symbol) (o : Option AggForm) → ag
 unfolding same_class read_aggregate_told
 any_last n s ts None h p q r t = any_none n s ts h ∙ sym (told_none (same_class k.AvgCalled (class s)) refl)
   where
-    avgs : list_all (λ d. not (same_class k.AvgCalled d) || is_form avg_form (agg_form d)) all_classes ≡ true
+    avgs : list_all (λ d. not (same_class k.AvgCalled d) || is_form (agg_form d) avg_form) all_classes ≡ true
     avgs = refl
 
     told_none : (b : Bool) → same_class k.AvgCalled (class s) ≡ b → read_aggregate_told k.AvgCalled n (s ∷ ts) ≡ failed None (s ∷ ts)
@@ -185,19 +204,19 @@ any_last n s ts None h p q r t = any_none n s ts h ∙ sym (told_none (same_clas
 any_last n s ts (Some avg_form) h p q r t = any_by n s ts avg_form h ∙ aggregate_is n (s ∷ ts) k.AvgCalled
 any_last n s ts (Some count_form) h p q r t = absurd (not_here k.CountCalled count_form all (class s) h p)
   where
-    all : list_all (λ d. not (is_form count_form (agg_form d)) || same_class k.CountCalled d) all_classes ≡ true
+    all : list_all (λ d. not (is_form (agg_form d) count_form) || same_class k.CountCalled d) all_classes ≡ true
     all = refl
 any_last n s ts (Some sum_form) h p q r t = absurd (not_here k.SumCalled sum_form all (class s) h q)
   where
-    all : list_all (λ d. not (is_form sum_form (agg_form d)) || same_class k.SumCalled d) all_classes ≡ true
+    all : list_all (λ d. not (is_form (agg_form d) sum_form) || same_class k.SumCalled d) all_classes ≡ true
     all = refl
 any_last n s ts (Some min_form) h p q r t = absurd (not_here k.MinCalled min_form all (class s) h r)
   where
-    all : list_all (λ d. not (is_form min_form (agg_form d)) || same_class k.MinCalled d) all_classes ≡ true
+    all : list_all (λ d. not (is_form (agg_form d) min_form) || same_class k.MinCalled d) all_classes ≡ true
     all = refl
 any_last n s ts (Some max_form) h p q r t = absurd (not_here k.MaxCalled max_form all (class s) h t)
   where
-    all : list_all (λ d. not (is_form max_form (agg_form d)) || same_class k.MaxCalled d) all_classes ≡ true
+    all : list_all (λ d. not (is_form (agg_form d) max_form) || same_class k.MaxCalled d) all_classes ≡ true
     all = refl
 
 pub any_avg : (n : ℕ) (ts : List Symbol) → starts (of k.CountCalled) ts ≡ false → starts (of k.SumCalled) ts ≡ false → starts (of k.MinCalled) ts ≡ false → starts (of k.MaxCalled) ts ≡ false

@@ -72,11 +72,7 @@ fn aggregate(
 
 /// What is counted.
 #[tactic(auto, unfolding(sql_grammar::specs::QueryReaders::read_counted))]
-fn counted(
-    alloc: Global,
-    tokens: &mut Tokens<'_>,
-    primaries: &mut u32,
-) -> Result<Boxed<Agg>, Stop>
+fn counted(alloc: Global, tokens: &mut Tokens<'_>, primaries: &mut u32) -> Result<Boxed<Agg>, Stop>
     ensures { GivesCounted (read_counted primaries.old tokens.old.symbols) result primaries.new tokens.new.symbols }
 {
     if sees(tokens, Class::Star) {
@@ -89,11 +85,7 @@ fn counted(
 
 /// COUNT.
 #[tactic(auto, unfolding(crate::specs::Parsing::read_count_told, sql_expressions::specs::Parsing::read_in_brackets))]
-fn count(
-    alloc: Global,
-    tokens: &mut Tokens<'_>,
-    primaries: &mut u32,
-) -> Result<Boxed<Agg>, Stop>
+fn count(alloc: Global, tokens: &mut Tokens<'_>, primaries: &mut u32) -> Result<Boxed<Agg>, Stop>
     ensures { GivesCounted (read_count_told primaries.old tokens.old.symbols) result primaries.new tokens.new.symbols }
 {
     expect(tokens, Class::CountCalled)?;
@@ -104,11 +96,7 @@ fn count(
 }
 
 /// An aggregate.
-fn any_agg(
-    alloc: Global,
-    tokens: &mut Tokens<'_>,
-    primaries: &mut u32,
-) -> Result<Boxed<Agg>, Stop>
+fn any_agg(alloc: Global, tokens: &mut Tokens<'_>, primaries: &mut u32) -> Result<Boxed<Agg>, Stop>
     ensures { GivesCounted (read_any_agg primaries.old tokens.old.symbols) result primaries.new tokens.new.symbols }
 {
     if sees(tokens, Class::CountCalled) {

@@ -10,12 +10,12 @@ pub returns-then-sees-2 : goal.returns-then-sees-2
 returns-then-sees-2 c = rw (any_sum c.args.primaries.now c.args.tokens.now.symbols (sym c.sees-2.ensures ∙ c.if-sees-2.true)) c.aggregate.ensures
 
 pub returns-then-sees-3 : goal.returns-then-sees-3
-returns-then-sees-3 c = rw (any_min c.args.primaries.now c.args.tokens.now.symbols (sym c.sees-3.ensures ∙ c.if-sees-3.true)) c.aggregate-2.ensures
+returns-then-sees-3 c = rw (any_min c.args.primaries.now c.args.tokens.now.symbols (sym c.sees-3.ensures ∙ c.if-sees-3.true)) c.aggregate-then-sees-3.ensures
 
 pub returns-then-sees-4 : goal.returns-then-sees-4
-returns-then-sees-4 c = rw (any_max c.args.primaries.now c.args.tokens.now.symbols (sym c.sees-4.ensures ∙ c.if-sees-4.true)) c.aggregate-3.ensures
+returns-then-sees-4 c = rw (any_max c.args.primaries.now c.args.tokens.now.symbols (sym c.sees-4.ensures ∙ c.if-sees-4.true)) c.aggregate-then-sees-4.ensures
 
 pub returns : goal.returns
 returns c =
     rw (any_avg c.args.primaries.now c.args.tokens.now.symbols (sym c.sees.ensures ∙ c.if-sees.false) (sym c.sees-2.ensures ∙ c.if-sees-2.false) (sym c.sees-3.ensures ∙ c.if-sees-3.false) (sym c.sees-4.ensures ∙ c.if-sees-4.false))
-    c.aggregate-4.ensures
+    c.aggregate-2.ensures

@@ -14,4 +14,4 @@ returns-in_err-name c =
 pub returns : goal.returns
 returns c =
     let m = c.later_agg.new.primaries in
-    total_named c.args.primaries.now c.args.tokens.now.symbols read_later_agg c.in_ok-agg.agg m c.later_agg.new.tokens.symbols c.in_ok-agg.ensures c.in_ok-name.name c.as_name.new.tokens.symbols (c.in_ok-name.ensures m)
+    rw c.into_inner.ensures (total_named c.args.primaries.now c.args.tokens.now.symbols read_later_agg c.in_ok-agg.agg m c.later_agg.new.tokens.symbols c.in_ok-agg.ensures c.in_ok-name.name c.as_name.new.tokens.symbols (c.in_ok-name.ensures m))
