@@ -54,7 +54,8 @@ fn next_row(
     primaries: &mut u32,
     left: &mut u32,
 ) -> Result<Item, Stop>
-    ensures { GivesCounted (read_item (λ s. over_class true (class s)) read_row (left.old, primaries.old) tokens.old.symbols) result (left.new, primaries.new) tokens.new.symbols }
+    ensures { GivesCounted (read_item (λ s. over_class true (class s)) read_row (left.old, primaries.old) tokens.old.symbols)
+        result (left.new, primaries.new) tokens.new.symbols }
 {
     if *left == 0 {
         return Err(over_member(tokens.class(), true));
@@ -71,7 +72,9 @@ fn row_behind(
     primaries: &mut u32,
     left: &mut u32,
 ) -> Result<Item, Stop>
-    ensures { GivesCounted (read_counted_past (of k.Comma) (read_item (λ s. over_class true (class s)) read_row) (left.old, primaries.old) tokens.old.symbols) result (left.new, primaries.new) tokens.new.symbols }
+    ensures { GivesCounted
+        (read_counted_past (of k.Comma) (read_item (λ s. over_class true (class s)) read_row) (left.old, primaries.old) tokens.old.symbols)
+        result (left.new, primaries.new) tokens.new.symbols }
 {
     expect(tokens, Class::Comma)?;
     let found = next_row(alloc, tokens, primaries, left)?;

@@ -4,7 +4,8 @@ ghost use Rattle.grammar_rules.specs.CountedReaders.{read_given};
 ghost use Rattle.sql_grammar.specs.declared.tree.Selection.{Selection};
 ghost use Rattle.sql_grammar.specs.Marks.{is_source};
 ghost use Rattle.sql_grammar.specs.Queries.{written_of, selected};
-ghost use Rattle.sql_grammar.specs.QueryReaders.{read_items, read_list, read_filter, read_limit, read_ending, read_behind_list, read_whole_query};
+ghost use Rattle.sql_grammar.specs.QueryReaders.{read_items, read_list, read_filter, read_limit};
+ghost use Rattle.sql_grammar.specs.QueryReaders.{read_ending, read_behind_list, read_whole_query};
 ghost use Rattle.sql_leaves.specs.Parsing.{Gives, GivesCounted};
 ghost use Rattle.select_sql.specs.Written.{GivesAs, AllOfName, listed, written};
 
@@ -158,7 +159,9 @@ fn behind_list(
     primaries: &mut u32,
     list: Listed,
 ) -> Result<Parts, Stop>
-    ensures { GivesAs written (read_given (λ p. written_of (listed list) p.0 p.1.0 p.1.1) read_behind_list primaries.old tokens.old.symbols) result primaries.new tokens.new.symbols }
+    ensures { GivesAs written
+        (read_given (λ p. written_of (listed list) p.0 p.1.0 p.1.1) read_behind_list primaries.old tokens.old.symbols)
+        result primaries.new tokens.new.symbols }
 {
     expect(tokens, Class::From)?;
     if !is_source(tokens.class()) {

@@ -1,7 +1,8 @@
 //! The source and its path.
 ghost use Rattle.std.specs.Prelude.{◌≡◌, ℕ, ◌++◌, ◌∷◌};
 ghost use Rattle.grammar_rules.specs.CountedReaders.{read_given};
-ghost use Rattle.sql_grammar.specs.QueryReaders.{read_named_step, read_element_rest, read_all_rest, read_step, read_steps, read_bracket_steps, read_source_steps, read_alias};
+ghost use Rattle.sql_grammar.specs.QueryReaders.{read_named_step, read_element_rest, read_all_rest, read_step, read_steps};
+ghost use Rattle.sql_grammar.specs.QueryReaders.{read_bracket_steps, read_source_steps, read_alias};
 ghost use Rattle.sql_leaves.specs.Parsing.{GivesCounted};
 ghost use Rattle.select_sql.specs.Parsing.{read_bracket_step};
 
@@ -75,7 +76,8 @@ fn more_steps(
     so_far: Items<Step>,
     most: u32,
 ) -> Result<Items<Step>, Stop>
-    ensures { (n : ℕ) → GivesCounted (read_given (λ rest. so_far ++ rest) (read_steps most) n tokens.old.symbols) result n tokens.new.symbols }
+    ensures { (n : ℕ) → GivesCounted (read_given (λ rest. so_far ++ rest) (read_steps most) n tokens.old.symbols)
+        result n tokens.new.symbols }
 {
     let mut all = so_far;
     let mut left = most;
@@ -92,7 +94,8 @@ fn more_steps(
 
 /// This step, and at most 63 others.
 fn own_steps(alloc: Global, tokens: &mut Tokens<'_>, first: Step) -> Result<Items<Step>, Stop>
-    ensures { (n : ℕ) → GivesCounted (read_given (λ rest. first ∷ rest) (read_steps 63) n tokens.old.symbols) result n tokens.new.symbols }
+    ensures { (n : ℕ) → GivesCounted (read_given (λ rest. first ∷ rest) (read_steps 63) n tokens.old.symbols)
+        result n tokens.new.symbols }
 {
     let mut all = Items::new(alloc);
     all.push(first)?;

@@ -4,7 +4,8 @@ ghost use Rattle.sql_tokens.specs.declared.class.Class.TheVariants as k;
 ghost use Rattle.grammar_rules.specs.CountedReaders.{read_counted_past};
 ghost use Rattle.sql_grammar.specs.Marks.{of};
 ghost use Rattle.sql_grammar.specs.Queries.{agg_form, mixed_class, over_total};
-ghost use Rattle.sql_grammar.specs.QueryReaders.{is_agg, read_counted, read_any_agg, read_later_agg, read_total, read_first_total, read_later_total, read_totals};
+ghost use Rattle.sql_grammar.specs.QueryReaders.{is_agg, read_counted, read_any_agg, read_later_agg, read_total};
+ghost use Rattle.sql_grammar.specs.QueryReaders.{read_first_total, read_later_total, read_totals};
 ghost use Rattle.sql_leaves.specs.Parsing.{GivesCounted, is_token};
 ghost use Rattle.sql_expressions.specs.Parsing.{IsOver};
 ghost use Rattle.select_sql.specs.Parsing.{agg_node, read_aggregate_told, read_count_told};
@@ -189,7 +190,8 @@ fn next_total(
     primaries: &mut u32,
     left: &mut u32,
 ) -> Result<Total, Stop>
-    ensures { GivesCounted (read_counted_past (of k.Comma) read_later_total (left.old, primaries.old) tokens.old.symbols) result (left.new, primaries.new) tokens.new.symbols }
+    ensures { GivesCounted (read_counted_past (of k.Comma) read_later_total (left.old, primaries.old) tokens.old.symbols)
+        result (left.new, primaries.new) tokens.new.symbols }
 {
     expect(tokens, Class::Comma)?;
     if *left == 0 {
