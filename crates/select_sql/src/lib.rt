@@ -17,3 +17,4 @@ pub use sql_grammar::{
 pub use sql_lawful::spelled_queries_are_lawful;
 pub use sql_printed::printed_queries_spell;
 pub use sql_printer::{copy_agg, copy_expr, copy_name, copy_query, copy_selection, print};
+pub use sql_tokens::TextBuf;
