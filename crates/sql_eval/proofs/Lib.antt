@@ -1,0 +1,4 @@
+mod Gives
+mod Walks
+mod Stepping
+mod Read
