@@ -15,6 +15,9 @@ FOLDER holds the objects, and ADDRESS is - for a command that needs no socket.
 commands:
   select NAME   reads a request body (the XML of SelectObjectContent) from standard
                 input, and writes the reply about the object NAME to standard output
+  tile NAME CUT..
+                the same with a reply for each range between the cuts, one after the
+                other: 1 to 1,000 bytes of the object, ascending, where tiles begin
   show          reads replies from standard input, and prints a line for each event
   records       reads replies from standard input, and writes the output that their
                 Records events hold

@@ -22,3 +22,4 @@ pub use request::{
     CsvInput, CsvOutput, Delimiter, Header, Input, Output, ScanRange, SelectRequest,
 };
 pub use request_elements::TextBuf;
+pub use values::whole_number;

@@ -124,8 +124,8 @@ fn begins_with_plus(text: &str) -> bool
     !bytes.is_empty() && bytes[0] == b'+'
 }
 
-/// Digits of a value up to 2^63 - 1.
-fn whole_number(text: &str) -> Option<u64>
+/// The value of a text of decimal digits, one or more, up to 2^63 - 1 (Amazon S3 API Reference, `ScanRange`). Leading zeros are read.
+pub fn whole_number(text: &str) -> Option<u64>
     ensures { result ≡ whole_number_of text.now }
 {
     if begins_with_plus(text) {

@@ -5,3 +5,7 @@ pub mod ListingLaws
 pub mod NothingRead
 pub mod OneListing
 pub mod ReplyLaws
+pub mod WholeLaws
+pub mod TileSteps
+pub mod WordLaws
+pub mod TileLaws

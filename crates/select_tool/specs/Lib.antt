@@ -6,3 +6,7 @@ pub mod Listening
 pub mod Statuses
 pub mod Input
 pub mod Replies
+pub mod Tiles
+pub mod Whole
+pub mod Seen
+pub mod Commands

@@ -12,7 +12,6 @@ use Rattle.select_tool.specs.Lines.{IsLine}
 use Rattle.select_tool.specs.Endings.{Ending, replied, bad, long, EndsWith, longest_input}
 use Rattle.select_tool.specs.declared.trouble.Trouble.{Trouble}
 use Rattle.select_tool.specs.declared.trouble.Trouble.TheVariants.{BadWords, NoSuchKey, InputFault, OutputFault, StoreFault, OutOfMemory, BadReply}
-use Rattle.select_tool.specs.Words.{listed}
 use Rattle.select_tool.specs.Statuses.{line_of}
 use Rattle.select_tool.specs.Replies.{WritesUnlessFaulty}
 
@@ -53,10 +52,6 @@ pub record IsListedInPart (listing : Listing) (input : List ℕ) (before now : O
   pub lists : Lists listing events output
   pub written : AppendsFront before now output
 
--- a fact of the listing that words ask for and the input, where it tells its bytes
-abbrev pub IfListed : List (String Global) → Option (List ℕ) → (Listing → List ℕ → Type 0) → Type 0
-IfListed words left P = IfSome (listed words) (λ listing. IfSome left (λ input. P listing input))
-
 -- the status that tells how an input ends
 abbrev pub status_of_ending : Ending → ℕ
 status_of_ending (replied erred) = if erred then 1 else 0
@@ -80,10 +75,9 @@ pub record IsRefused (listing : Listing) (left before now : Option (List ℕ)) (
 abbrev pub TookTooMany : ℕ → ℕ → Type 0
 TookTooMany before now = min (before + longest_input + 1) (2 ^ 64 - 1) ≤ now
 
--- the input failed; or, where it is listed, it went on behind the bytes that are read
-abbrev pub FailsInput : Option Listing → ℕ → ℕ → ℕ → ℕ → Type 0
-FailsInput None faults_before faults_now taken_before taken_now = Rose faults_before faults_now
-FailsInput (Some listing) faults_before faults_now taken_before taken_now = Rose faults_before faults_now ⊎ TookTooMany taken_before taken_now
+-- the input failed, or it went on behind the bytes that are read
+abbrev pub FailsInput : ℕ → ℕ → ℕ → ℕ → Type 0
+FailsInput faults_before faults_now taken_before taken_now = Rose faults_before faults_now ⊎ TookTooMany taken_before taken_now
 
 -- the cause of each trouble of a listing
 abbrev pub ListingCause : Trouble → (ℕ → Type 0) → Type 0 → Type 0 → Type 0 → Type 0

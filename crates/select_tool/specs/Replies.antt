@@ -11,7 +11,7 @@ use Rattle.select_reply.specs.declared.outcome.Outcome.{Outcome}
 use Rattle.select_reply.specs.declared.outcome.Outcome.TheVariants.{Done, Faulted}
 use Rattle.select_tool.specs.declared.trouble.Trouble.{Trouble}
 use Rattle.select_tool.specs.declared.trouble.Trouble.TheVariants.{BadWords, NoSuchKey, InputFault, OutputFault, StoreFault, OutOfMemory, BadReply}
-use Rattle.select_tool.specs.Words.{Order, selects, lists, selected}
+use Rattle.select_tool.specs.Words.{Order, selects, tiles, lists}
 use Rattle.select_engine.specs.Prepared.{Prepares}
 use Rattle.select_reply.specs.Events.{wrapped_frames}
 use Rattle.select_reply.specs.Replies.{outcome_of}
@@ -76,10 +76,6 @@ IsCutShort object body before now = Keeps before now ⊎ RepliedInPart object bo
 abbrev pub IfTold : Option Objects → Option (List ℕ) → List ℕ → (List ℕ → List ℕ → Type 0) → Type 0
 IfTold held left name P = IfSome held (λ objects. IfSome (objects name) (λ object. IfSome left (λ body. P object body)))
 
--- the same for the words `select NAME`
-abbrev pub IfAsked : List (String Global) → Option Objects → Option (List ℕ) → (List ℕ → List ℕ → Type 0) → Type 0
-IfAsked words held left P = IfSome (selected words) (λ name. IfTold held left name P)
-
 -- the status of a command that was done: 1 where its reply has an Error event
 abbrev pub status_of_outcome : Outcome → ℕ
 status_of_outcome (Done counts) = 0
@@ -103,19 +99,20 @@ TookOnce None before now = now ≡ before
 TookOnce (Some object) before now = now ≤ before + object.0
 
 -- the cause of each trouble of a command whose words fit
-abbrev pub CauseOf : Trouble → Type 0 → Type 0 → Type 0 → Type 0 → Type 0 → Type 0
-CauseOf BadWords missing input output store nothing = ⊥
-CauseOf NoSuchKey missing input output store nothing = missing × nothing
-CauseOf InputFault missing input output store nothing = input × nothing
-CauseOf OutputFault missing input output store nothing = output
-CauseOf StoreFault missing input output store nothing = store
-CauseOf OutOfMemory missing input output store nothing = nothing
-CauseOf (BadReply at) missing input output store nothing = ⊥
+abbrev pub CauseOf : Trouble → Type 0 → Type 0 → Type 0 → Type 0 → Type 0 → Type 0 → Type 0
+CauseOf BadWords missing input output store memory nothing = ⊥
+CauseOf NoSuchKey missing input output store memory nothing = missing × nothing
+CauseOf InputFault missing input output store memory nothing = input × nothing
+CauseOf OutputFault missing input output store memory nothing = output
+CauseOf StoreFault missing input output store memory nothing = store
+CauseOf OutOfMemory missing input output store memory nothing = memory
+CauseOf (BadReply at) missing input output store memory nothing = ⊥
 
 -- the exit status of the words is one of the table's
 abbrev pub IsStatusOf : Option Order → ℕ → Type 0
 IsStatusOf None status = status ≡ 2
 IsStatusOf (Some (selects name)) status = (status < 6) ⊎ (status ≡ 7)
+IsStatusOf (Some (tiles name cuts)) status = (status < 6) ⊎ (status ≡ 7)
 IsStatusOf (Some (lists listing)) status = (status < 2) ⊎ (status ≡ 3) ⊎ (status ≡ 4) ⊎ (status ≡ 7) ⊎ (status ≡ 8)
 
 -- the line on the error output at any status but 8: none where the command was done
@@ -146,10 +143,3 @@ IsLacking (Some objects) name = objects name ≡ None
 -- no object of the name was found, or the store failed first
 abbrev pub IsMissingOrFault : Trouble → Type 0
 IsMissingOrFault trouble = (trouble ≡ NoSuchKey) ⊎ (trouble ≡ StoreFault)
-
--- nothing was asked of the store
-pub record StaysAsItWas (current_before current_now : Opened) (taken_before taken_now absent_before absent_now faults_before faults_now : ℕ) : Type 0 where
-  pub current : current_now ≡ current_before
-  pub taken : taken_now ≡ taken_before
-  pub absent : absent_now ≡ absent_before
-  pub faults : faults_now ≡ faults_before

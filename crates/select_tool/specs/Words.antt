@@ -1,16 +1,20 @@
 -- The words of the commands.
-use Rattle.std.specs.Prelude.{ℕ, List, [], ◌∷◌, Option, None, Some, option_and_then, codes, bytes_eq, if◌then◌else◌, String}
+use Rattle.std.specs.Prelude.{ℕ, ◌==◌, ◌&&◌, Bool, false, nat_lt, nat_le, List, [], ◌∷◌, length, Option, None, Some, option_and_then, codes, bytes_eq, if◌then◌else◌, String}
 use Rattle.std.specs.Option.{option_map}
 use Rattle.std.specs.String.{string_bytes}
 use Rattle.std.specs.declared.alloc.Global.{Global}
+use Rattle.select_request.specs.Values.{whole_number_of}
+use Rattle.select_engine.specs.Tiling.{Ascend}
 use Rattle.select_tool.specs.declared.listing.Listing.{Listing}
 use Rattle.select_tool.specs.declared.listing.Listing.TheVariants.{Lines, Payloads}
 use Rattle.select_tool.specs.declared.words.Command.{Command}
-use Rattle.select_tool.specs.declared.words.Command.TheVariants.{Select, List as Listed}
+use Rattle.select_tool.specs.declared.words.Command.TheVariants.{Select, Tile, List as Listed}
 
--- what words ask for: the reply about the object of a name, or a listing of the replies on the input
+-- what words ask for: the reply about the object of a name; the replies to the tiles of such an object, by these cuts; or a listing of
+-- the replies on the input
 pub data Order : Type 0 where
   selects : List ℕ → Order
+  tiles : List ℕ → List ℕ → Order
   lists : Listing → Order
 
 -- the word of a listing
@@ -20,30 +24,59 @@ listing_of word =
     else if bytes_eq word (codes "records") then Some Payloads
     else None
 
--- `select NAME`, `show` and `records`; other words are no command
+-- the digits begin with a zero that could be left out
+abbrev pub has_leading_zero : List ℕ → Bool
+has_leading_zero [] = false
+has_leading_zero (digit ∷ []) = false
+has_leading_zero (digit ∷ next ∷ digits) = digit == 48
+
+-- the number that a word is: digits without a sign and without a leading zero, of a value up to 2^63 - 1
+abbrev pub number_of : List ℕ → Option ℕ
+number_of word = if has_leading_zero word then None else whole_number_of word
+
+-- the most cuts of a tiling
+abbrev pub most_cuts : ℕ
+most_cuts = 1000
+
+-- the number above a place, if there is one
+abbrev pub above : ℕ → Option ℕ → Option ℕ
+above place None = None
+above place (Some number) = if nat_lt place number then Some number else None
+
+-- the cuts that words are: numbers, the first above the place, and each above the one before
+abbrev pub cuts_above : ℕ → List (String Global) → Option (List ℕ)
+cuts_above place [] = Some []
+cuts_above place (word ∷ words) = option_and_then (λ cut. option_map (λ cuts. cut ∷ cuts) (cuts_above cut words)) (above place (number_of (string_bytes word)))
+
+-- one to the most
+abbrev pub is_few : ℕ → Bool
+is_few count = nat_le 1 count && nat_le count most_cuts
+
+-- the cuts of a tiling, which words are: ascending, each 1 or more
+unfoldable pub cuts_of : List (String Global) → Option (List ℕ)
+cuts_of words = if is_few (length words) then cuts_above 0 words else None
+
+-- `select NAME`
+abbrev pub selection : List ℕ → List ℕ → List (String Global) → Option Order
+selection verb name [] = if bytes_eq verb (codes "select") then Some (selects name) else None
+selection verb name (word ∷ words) = None
+
+-- `select NAME`, `tile NAME CUT..`, `show` and `records`; other words are no command
 unfoldable pub ordered : List (String Global) → Option Order
 ordered [] = None
 ordered (verb ∷ []) = option_map lists (listing_of (string_bytes verb))
-ordered (verb ∷ name ∷ []) = if bytes_eq (string_bytes verb) (codes "select") then Some (selects (string_bytes name)) else None
-ordered (verb ∷ name ∷ more ∷ words) = None
+ordered (verb ∷ name ∷ words) =
+    if bytes_eq (string_bytes verb) (codes "tile") then option_map (tiles (string_bytes name)) (cuts_of words)
+    else selection (string_bytes verb) (string_bytes name) words
 
 -- the order of a command that was read from the words
 abbrev pub order_of : Command → Order
 order_of (Select name) = selects name.now
+order_of (Tile name cuts) = tiles name.now cuts.items
 order_of (Listed listing) = lists listing
 
-abbrev pub name_of : Order → Option (List ℕ)
-name_of (selects name) = Some name
-name_of (lists listing) = None
-
-abbrev pub listing_in : Order → Option Listing
-listing_in (selects name) = None
-listing_in (lists listing) = Some listing
-
--- the object that `select NAME` names, and none for other words
-abbrev pub selected : List (String Global) → Option (List ℕ)
-selected words = option_and_then name_of (ordered words)
-
--- the listing that `show` or `records` asks for, and none for other words
-abbrev pub listed : List (String Global) → Option Listing
-listed words = option_and_then listing_in (ordered words)
+-- the cuts of a command ascend
+abbrev pub HasAscendingCuts : Command → Type 0
+HasAscendingCuts (Select name) = Unit {0}
+HasAscendingCuts (Tile name cuts) = Ascend 0 cuts.items
+HasAscendingCuts (Listed listing) = Unit {0}

@@ -1,16 +1,21 @@
 //! The top call: a command from its words to its exit status.
-ghost use Rattle.std.specs.Prelude.{◌≡◌, ◌≢◌, ◌⊎◌, ◌+◌, ◌-◌, ◌<◌, ◌≤◌, IfSome, IfNone};
+ghost use Rattle.std.specs.Prelude.{◌≡◌, ◌≢◌, ◌⊎◌, ◌+◌, ◌-◌, ◌<◌, ◌≤◌, Some, IfSome};
 ghost use Rattle.std.specs.Io.KnownBytes.{Keeps};
 ghost use Rattle.select_ports.specs.Causes.{Rose};
-ghost use Rattle.select_tool.specs.Words.{selects, lists, ordered, selected, listed};
+ghost use Rattle.select_engine.specs.Tiling.{Ascend};
+ghost use Rattle.select_tool.specs.Commands.{Answers};
+ghost use Rattle.select_tool.specs.Words.{selects, tiles, lists, ordered};
 ghost use Rattle.select_tool.specs.Input.{IsUnread, most_of_body, most_of_replies, most_read};
-ghost use Rattle.select_tool.specs.Replies.{IfTold, IfAsked, IsReplied, IsCutShort, IsHeld, IsLacking, NotHeldBack, Misses, TookNear, TookOnce, IsStatusOf, StaysAsItWas, line_of_status, status_of_outcome, WritesUnlessFaulty};
+ghost use Rattle.select_tool.specs.Replies.{IfTold, IsReplied, IsCutShort, IsHeld, IsLacking, NotHeldBack, Misses, TookNear, TookOnce, IsStatusOf, line_of_status, status_of_outcome, WritesUnlessFaulty};
 ghost use Rattle.select_tool.specs.Statuses.{status_of, line_of};
-ghost use Rattle.select_tool.specs.Listings.{IfListed, IsAnswered, IsListedInPart, IsRefused, FailsInput};
+ghost use Rattle.select_tool.specs.Tiles.{IsTiledShort, IsTiledToReply, TookNearTiles, TookOnceATile};
+ghost use Rattle.select_tool.specs.Whole.{IsTiled};
+ghost use Rattle.select_tool.specs.Listings.{IsAnswered, IsListedInPart, IsRefused, FailsInput};
 
 use crate::listing::Listing;
 use crate::replies::list;
 use crate::select::select;
+use crate::tile::tile;
 use crate::trouble::Trouble;
 use crate::words::{Command, command_of};
 use select_engine::Outcome;
@@ -19,22 +24,26 @@ use std::alloc::Global;
 
 /// Runs the command that the words say, and returns its exit status.
 ///
-/// `select NAME` opens the object NAME, reads a request body from the input, and writes one reply to `out`. `show` reads replies
-/// from the input, and writes a line for each event: `Records N` with the number of bytes, `Cont`, `Progress S P R`, `Stats S P R`,
-/// `End` and `Error CODE MESSAGE`. The three numbers are `?` where the payload has no counts of the one form, and so is each byte of
-/// a code or a message that isn't a visible character of ASCII or a space. `records` writes the payloads of the Records events,
-/// joined. A reply ends with an End or Error event, and the input has one reply or more.
+/// `select NAME` opens the object NAME, reads a request body from the input, and writes one reply to `out`. `tile NAME CUT..` does the
+/// same with a reply for each range between the cuts, which take the place of the body's own range: from byte 0 up to the first cut,
+/// from each cut up to the next, and from the last cut on. It takes 1 to 1,000 cuts, ascending, each from 1 to 2^63 - 1. A body that
+/// is refused, or whose object allows no ranges, is refused once.
+///
+/// `show` reads replies from the input, and writes a line for each event: `Records N` with the number of bytes, `Cont`,
+/// `Progress S P R`, `Stats S P R`, `End` and `Error CODE MESSAGE`. The three numbers are `?` where the payload has no counts of the
+/// one form, and so is each byte of a code or a message that isn't a visible character of ASCII or a space. `records` writes the
+/// payloads of the Records events, joined. A reply ends with an End or Error event, and the input has one reply or more.
 ///
 /// | status | when | line on `err` |
 /// |---|---|---|
 /// | 0 | done | |
 /// | 1 | done, with an Error event written or read | |
 /// | 2 | the words are no command | `bad words` |
-/// | 2 | `select`: no object has the name | `NoSuchKey` |
+/// | 2 | `select`, `tile`: no object has the name | `NoSuchKey` |
 /// | 3 | the input failed, or gave more than 2^40 bytes to `show` or `records` | `input fault` |
 /// | 4 | the output failed | `output fault` |
 /// | 5 | the store failed | `store fault` |
-/// | 7 | memory was refused, before anything was written, and for `show` and `records` before anything was read | `out of memory` |
+/// | 7 | memory was refused: before anything was written, for `tile` after some of the replies, each whole, and for `show` and `records` before anything was read | `out of memory` |
 /// | 8 | `show`, `records`: a frame is bad at the place P of the input, or the input ends at P inside a reply or before the first one | `bad reply at P` |
 ///
 /// A failure of `err` is passed over.
@@ -46,69 +55,52 @@ pub fn run<S: Store, I: Source, O: Sink, E: Sink>(
     out: &mut O,
     err: &mut E,
 ) -> u8
-    // `select`. At status 0 and 1 the bytes written are the frames of the reply to the body about the object. 1 tells that it has an
-    // Error event.
-    ensures reply { result < 2 → IfAsked words.now (S.held store.old) (I.left input.old)
-        (λ object body. IsReplied object body result (O.written out.old) (O.written out.new)) }
-    // At any other status nothing was written, or a front of that reply.
-    ensures front { 1 < result → IfAsked words.now (S.held store.old) (I.left input.old)
-        (λ object body. IsCutShort object body (O.written out.old) (O.written out.new)) }
-    // Output isn't held back: where the store failed, the whole pieces that the early records' output reaches have been written.
-    ensures early { result ≡ 5 → IfAsked words.now (S.held store.old) (I.left input.old)
-        (λ object body. NotHeldBack object body (S.taken store.new - S.taken store.old) (O.written out.old) (O.written out.new)) }
-    // `show` and `records`. At status 0 and 1 the whole input is replies, and what their events add was written. 1 tells that one
-    // of them has an Error event.
-    ensures listed { result < 2 → IfListed words.now (I.left input.old)
-        (λ listing bytes. IsAnswered listing bytes result (O.written out.old) (O.written out.new)) }
-    // At any other status a front of what the input's first frames add was written.
-    ensures listed_front { 1 < result → IfListed words.now (I.left input.old)
-        (λ listing bytes. IsListedInPart listing bytes (O.written out.old) (O.written out.new)) }
+    // What the command answers, by what is outside before and after it: a record for each command.
+    ensures answers { Answers (ordered words.now) result
+        (record {
+          store = record {
+            held = S.held store.old;
+            current = S.current store.old;
+            taken = S.taken store.old;
+            absent = S.absent store.old;
+            faults = S.faults store.old;
+          };
+          input = record { left = I.left input.old; taken = I.taken input.old; faults = I.faults input.old };
+          out = record { written = O.written out.old; faults = O.faults out.old };
+          err = record { written = E.written err.old; faults = E.faults err.old };
+        })
+        (record {
+          store = record {
+            held = S.held store.new;
+            current = S.current store.new;
+            taken = S.taken store.new;
+            absent = S.absent store.new;
+            faults = S.faults store.new;
+          };
+          input = record { left = I.left input.new; taken = I.taken input.new; faults = I.faults input.new };
+          out = record { written = O.written out.new; faults = O.faults out.new };
+          err = record { written = E.written err.new; faults = E.faults err.new };
+        }) }
+    // The status is one of the command's.
     ensures only { IsStatusOf (ordered words.now) result }
-    ensures bad_words { IfNone (ordered words.now) (result ≡ 2) }
-    ensures two { result ≡ 2 → Keeps (O.written out.old) (O.written out.new)
-        × IsUnread (I.taken input.old) (I.taken input.new) (I.left input.old) (I.left input.new) × IfSome (selected words.now)
-        (λ name. Misses (S.held store.old) name (S.current store.new) (S.absent store.old) (S.absent store.new)) }
-    ensures missing { IfSome (selected words.now) (λ name. IsLacking (S.held store.old) name → (result ≡ 2) ⊎ (result ≡ 5)) }
-    ensures three { result ≡ 3 → FailsInput (listed words.now) (I.faults input.old) (I.faults input.new)
-        (I.taken input.old) (I.taken input.new) }
-    // `select` reads the whole body before it writes.
-    ensures unwritten { result ≡ 3 → IfSome (selected words.now) (λ name. Keeps (O.written out.old) (O.written out.new)) }
-    ensures four { result ≡ 4 → Rose (O.faults out.old) (O.faults out.new) }
-    ensures five { result ≡ 5 → Rose (S.faults store.old) (S.faults store.new) }
-    ensures seven { result ≡ 7 → Keeps (O.written out.old) (O.written out.new) }
-    ensures unread { result ≡ 7 → IfSome (listed words.now)
-        (λ listing. IsUnread (I.taken input.old) (I.taken input.new) (I.left input.old) (I.left input.new)) }
-    // The line on `err` tells the place where the input goes bad or ends early.
-    ensures eight { result ≡ 8 → IfSome (listed words.now) (λ listing. IsRefused listing (I.left input.old)
-        (O.written out.old) (O.written out.new) (E.faults err.old) (E.faults err.new) (E.written err.old) (E.written err.new)) }
-    // Where the object is held and nothing outside failed, the command is done, or memory was refused.
-    ensures complete { IfSome (selected words.now) (λ name. IsHeld (S.held store.old) name
-        → ¬ (Rose (S.faults store.old) (S.faults store.new))
-        → ¬ (Rose (I.faults input.old) (I.faults input.new))
-        → ¬ (Rose (O.faults out.old) (O.faults out.new))
-        → (result < 2) ⊎ (result ≡ 7)) }
-    // Where nothing outside failed, what all whole frames of the input add was written and the status tells how the input ends,
-    // or memory was refused.
-    ensures listed_complete { IfSome (listed words.now) (λ listing. ¬ (Rose (I.faults input.old) (I.faults input.new))
-        → ¬ (Rose (O.faults out.old) (O.faults out.new))
-        → (result ≡ 7) ⊎ IfSome (I.left input.old)
-        (λ bytes. IsAnswered listing bytes result (O.written out.old) (O.written out.new))) }
+    // Where the error output didn't fail, the status's line was written to it. For status 8 the record has it.
     ensures line { result ≢ 8 → WritesUnlessFaulty (E.faults err.old) (E.faults err.new) (E.written err.old) (E.written err.new)
         (line_of_status (ordered words.now) result) }
-    // No byte of the object is read twice.
-    ensures taken { IfSome (selected words.now) (λ name. TookOnce (S.current store.new) (S.taken store.old) (S.taken store.new)) }
-    // Little more is read of the object than the range that the body asks for.
-    ensures near { IfSome (selected words.now) (λ name. IfSome (I.left input.old)
-        (λ body. TookNear (S.current store.new) body (S.taken store.old) (S.taken store.new))) }
     // The input is read no further than one byte past the longest body, or past the most that is read of replies.
     ensures input_taken { I.taken input.new ≤ I.taken input.old + most_read (ordered words.now) }
     ensures held { S.held store.new ≡ S.held store.old }
-    // `select` alone uses the store.
-    ensures unused { IfNone (selected words.now) (StaysAsItWas (S.current store.old) (S.current store.new)
-        (S.taken store.old) (S.taken store.new) (S.absent store.old) (S.absent store.new) (S.faults store.old) (S.faults store.new)) }
 {
     match command_of(words) {
         Some(Command::Select(name)) => run_select(alloc, name, store, input, out, err),
+        Some(Command::Tile(name, cuts)) => run_tile(
+            alloc,
+            name,
+            cuts.as_slice(),
+            store,
+            input,
+            out,
+            err,
+        ),
         Some(Command::List(listing)) => run_list(alloc, listing, input, out, err),
         None => report(err, Trouble::BadWords),
     }
@@ -157,6 +149,51 @@ fn run_select<S: Store, I: Source, O: Sink, E: Sink>(
     }
 }
 
+// The command `tile NAME CUT..`.
+fn run_tile<S: Store, I: Source, O: Sink, E: Sink>(
+    alloc: Global,
+    name: &str,
+    cuts: &[u64],
+    store: &mut S,
+    input: &mut I,
+    out: &mut O,
+    err: &mut E,
+) -> u8
+    requires { Ascend 0 cuts.now }
+    ensures reply { result < 2 → IfTold (S.held store.old) (I.left input.old) name.now
+        (λ object body. IsTiled object body cuts.now result (O.written out.old) (O.written out.new)) }
+    ensures front { 1 < result → IfTold (S.held store.old) (I.left input.old) name.now
+        (λ object body. IsTiledShort object body cuts.now (O.written out.old) (O.written out.new)) }
+    ensures only { (result < 6) ⊎ (result ≡ 7) }
+    ensures two { result ≡ 2 → Keeps (O.written out.old) (O.written out.new)
+        × IsUnread (I.taken input.old) (I.taken input.new) (I.left input.old) (I.left input.new)
+        × Misses (S.held store.old) name.now (S.current store.new) (S.absent store.old) (S.absent store.new) }
+    ensures missing { IsLacking (S.held store.old) name.now → (result ≡ 2) ⊎ (result ≡ 5) }
+    ensures three { result ≡ 3 → Rose (I.faults input.old) (I.faults input.new) }
+    ensures unwritten { result ≡ 3 → Keeps (O.written out.old) (O.written out.new) }
+    ensures four { result ≡ 4 → Rose (O.faults out.old) (O.faults out.new) }
+    ensures five { result ≡ 5 → Rose (S.faults store.old) (S.faults store.new) }
+    ensures seven { result ≡ 7 → IfTold (S.held store.old) (I.left input.old) name.now
+        (λ object body. IsTiledToReply object body cuts.now (O.written out.old) (O.written out.new)) }
+    ensures complete { IsHeld (S.held store.old) name.now
+        → ¬ (Rose (S.faults store.old) (S.faults store.new))
+        → ¬ (Rose (I.faults input.old) (I.faults input.new))
+        → ¬ (Rose (O.faults out.old) (O.faults out.new))
+        → (result < 2) ⊎ (result ≡ 7) }
+    ensures line { WritesUnlessFaulty (E.faults err.old) (E.faults err.new) (E.written err.old) (E.written err.new)
+        (line_of_status (Some (tiles name.now cuts.now)) result) }
+    ensures taken { TookOnceATile (S.current store.new) cuts.now (S.taken store.old) (S.taken store.new) }
+    ensures near { IfSome (I.left input.old)
+        (λ body. TookNearTiles (S.current store.new) body cuts.now (S.taken store.old) (S.taken store.new)) }
+    ensures input_taken { I.taken input.new ≤ I.taken input.old + most_of_body }
+    ensures held { S.held store.new ≡ S.held store.old }
+{
+    match tile(alloc, name, cuts, store, input, out) {
+        Ok(erred) => u8::from(erred),
+        Err(trouble) => report(err, trouble),
+    }
+}
+
 // The exit status of a command that was done.
 fn status_when_done(outcome: &Outcome) -> u8
     ensures { result ≡ status_of_outcome outcome.now }
@@ -180,7 +217,7 @@ fn run_list<I: Source, O: Sink, E: Sink>(
     ensures front { 1 < result → IfSome (I.left input.old)
         (λ bytes. IsListedInPart listing bytes (O.written out.old) (O.written out.new)) }
     ensures only { (result < 2) ⊎ (result ≡ 3) ⊎ (result ≡ 4) ⊎ (result ≡ 7) ⊎ (result ≡ 8) }
-    ensures three { result ≡ 3 → FailsInput (Some listing) (I.faults input.old) (I.faults input.new)
+    ensures three { result ≡ 3 → FailsInput (I.faults input.old) (I.faults input.new)
         (I.taken input.old) (I.taken input.new) }
     ensures four { result ≡ 4 → Rose (O.faults out.old) (O.faults out.new) }
     ensures seven { result ≡ 7 → Keeps (O.written out.old) (O.written out.new)

@@ -13,7 +13,7 @@ use std::alloc::Global;
 /// Reads the body to its end, or to one byte past the longest that is taken.
 pub(crate) fn read_body<I: Source>(alloc: Global, input: &mut I) -> Result<Vec<u8>, Trouble>
     ensures body { IfOk result (λ body. IsReadFrom (I.left input.old) body.items) }
-    ensures cause { IfErr result (λ trouble. CauseOf trouble ⊥ (Rose (I.faults input.old) (I.faults input.new)) ⊥ ⊥ ⊤) }
+    ensures cause { IfErr result (λ trouble. CauseOf trouble ⊥ (Rose (I.faults input.old) (I.faults input.new)) ⊥ ⊥ ⊤ ⊤) }
     ensures taken { I.taken input.new ≤ I.taken input.old + most_of_body }
 {
     let Ok(mut body) = room(alloc, LONGEST_BODY + 1) else {

@@ -1,10 +1,12 @@
-//! The law of listings.
+//! Laws of listings and tilings.
 ghost use Rattle.std.specs.Prelude.{List, ℕ, Some};
 ghost use Rattle.select_tool.specs.declared.listing.Listing.{Listing};
 ghost use Rattle.select_tool.specs.Endings.{Ending};
 ghost use Rattle.select_tool.specs.Listings.{IsListed, IsOneAnswer};
+ghost use Rattle.select_tool.specs.Whole.{EachTilingMakesWhole};
 
 use event_frame::{counts_have_one_reading, stream_has_one_reading};
+use select_engine::tiles_have_each_record_once;
 
 /// An input of replies ends in one way, and one list of bytes is listed of it.
 pub fn replies_have_one_listing()
@@ -14,4 +16,12 @@ pub fn replies_have_one_listing()
 {
     stream_has_one_reading();
     counts_have_one_reading();
+}
+
+/// The tiles of an object have each record of the whole once, and the replies to them make the reply to the whole.
+pub fn replies_make_the_whole()
+    ensures { EachTilingMakesWhole }
+{
+    tiles_have_each_record_once();
+    select_reply::tiles_make_the_whole();
 }

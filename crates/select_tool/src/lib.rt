@@ -10,8 +10,9 @@ mod listing;
 mod replies;
 mod select;
 mod show;
+mod tile;
 mod trouble;
 mod words;
 
 pub use commands::run;
-pub use laws::replies_have_one_listing;
+pub use laws::{replies_have_one_listing, replies_make_the_whole};

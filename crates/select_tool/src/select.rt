@@ -1,11 +1,12 @@
 //! The command `select NAME`: the reply to the body on the input, about the object of that name.
-ghost use Rattle.std.specs.Prelude.{◌≡◌, ◌+◌, ◌-◌, ◌≤◌, ℕ, List, None, ⊤, [], ◌∷◌, Err, IfOk, IfErr, IfSome, IsErrAnd};
+ghost use Rattle.std.specs.Prelude.{◌≡◌, ◌+◌, ◌-◌, ◌≤◌, true, ℕ, List, None, ⊤, [], ◌∷◌, Err, IfOk, IfErr, IfSome, IsErrAnd};
 ghost use Rattle.std.specs.Io.KnownBytes.{Keeps};
 ghost use Rattle.select_ports.specs.Causes.{Rose};
 ghost use Rattle.select_ports.specs.Stored.{IsOpen, OpensName};
 ghost use Rattle.line_window.specs.Sliding.{Tells};
-ghost use Rattle.select_engine.specs.Prepared.{IsBuiltIfAsked, Prepares};
+ghost use Rattle.select_engine.specs.Prepared.{IsBuiltIfAsked, Prepares, is_built};
 ghost use Rattle.select_reply.specs.Events.{error_event};
+ghost use Rattle.select_engine.specs.declared.asked.Asked.TheVariants.{Asks};
 ghost use Rattle.select_engine.specs.Events.{events};
 ghost use Rattle.select_engine.specs.Jobs.{WritesReply};
 ghost use Rattle.select_tool.specs.Input.{IsUnread, most_of_body};
@@ -18,6 +19,7 @@ use select_engine::{
     unread_records_are_late,
 };
 use select_ports::{Failed, Found, FrameSink, Limits, Plain, Sink, Source, Store};
+use select_request::SelectRequest;
 use std::alloc::Global;
 
 /// The program's record limit.
@@ -43,6 +45,7 @@ pub(crate) fn select<S: Store, I: Source, O: Sink>(
         (Rose (I.faults input.old) (I.faults input.new))
         (Rose (O.faults out.old) (O.faults out.new))
         (Rose (S.faults store.old) (S.faults store.new))
+        (Keeps (O.written out.old) (O.written out.new))
         (Keeps (O.written out.old) (O.written out.new))) }
     ensures missing { IsLacking (S.held store.old) name.now → IsErrAnd result IsMissingOrFault }
     ensures taken { TookOnce (S.current store.new) (S.taken store.old) (S.taken store.new) }
@@ -57,15 +60,14 @@ pub(crate) fn select<S: Store, I: Source, O: Sink>(
     write_reply(alloc, &asked, store, size, &mut Plain { sink: out })
 }
 
-// Opens the object of the name, and tells its size.
-fn open<S: Store>(store: &mut S, name: &str) -> Result<u64, Trouble>
+/// Opens the object of the name, and tells its size.
+pub(crate) fn open<S: Store>(store: &mut S, name: &str) -> Result<u64, Trouble>
     ensures opened { IfOk result (λ size. OpensName (S.held store.old) name.now size (S.current store.new)) }
     ensures cause { IfErr result (λ trouble. CauseOf trouble
         (Misses (S.held store.old) name.now (S.current store.new) (S.absent store.old) (S.absent store.new))
-        ⊥ ⊥ (Rose (S.faults store.old) (S.faults store.new)) ⊤) }
+        ⊥ ⊥ (Rose (S.faults store.old) (S.faults store.new)) ⊥ ⊤) }
     ensures closed { IfErr result (λ trouble. S.current store.new ≡ None) }
     ensures missing { IsLacking (S.held store.old) name.now → IsErrAnd result IsMissingOrFault }
-    ensures memory { result ≡ Err Trouble.OutOfMemory → ⊥ }
     ensures taken { S.taken store.new ≡ S.taken store.old }
     ensures held { S.held store.new ≡ S.held store.old }
     ensures faults { S.faults store.old ≤ S.faults store.new }
@@ -77,11 +79,11 @@ fn open<S: Store>(store: &mut S, name: &str) -> Result<u64, Trouble>
     }
 }
 
-// Reads the body and what it asks.
-fn read_asked<I: Source>(alloc: Global, input: &mut I) -> Result<Asked, Trouble>
+/// Reads the body and what it asks.
+pub(crate) fn read_asked<I: Source>(alloc: Global, input: &mut I) -> Result<Asked, Trouble>
     ensures asked { IfOk result (λ asked. IfSome (I.left input.old) (λ body. Prepares body asked)) }
     ensures built { IfOk result (λ asked. IsBuiltIfAsked asked) }
-    ensures cause { IfErr result (λ trouble. CauseOf trouble ⊥ (Rose (I.faults input.old) (I.faults input.new)) ⊥ ⊥ ⊤) }
+    ensures cause { IfErr result (λ trouble. CauseOf trouble ⊥ (Rose (I.faults input.old) (I.faults input.new)) ⊥ ⊥ ⊤ ⊤) }
     ensures input_taken { I.taken input.new ≤ I.taken input.old + most_of_body }
 {
     let body = read_body(alloc, input)?;
@@ -109,7 +111,7 @@ fn write_reply<S: Store, K: FrameSink>(
     ensures cause { IfErr result (λ trouble. CauseOf trouble ⊥ ⊥
         (Rose (K.faults out.old) (K.faults out.new))
         (Rose (S.faults store.old) (S.faults store.new))
-        (Keeps (K.written out.old) (K.written out.new))) }
+        (Keeps (K.written out.old) (K.written out.new)) ⊤) }
     ensures near { S.taken store.new ≤ S.taken store.old + most_read_of size asked.now }
     ensures taken { S.taken store.new ≤ S.taken store.old + size }
     ensures held { S.held store.new ≡ S.held store.old }
@@ -120,17 +122,48 @@ fn write_reply<S: Store, K: FrameSink>(
 {
     match asked {
         Asked::Refused { code, at } => write_refusal(alloc, *code, *at, out),
-        Asked::Asks(request) => match run_job(alloc, LIMITS, request, store, size, out) {
-            Ok(outcome) => Ok(outcome),
-            Err(EngineError::StoreFault) => Err(Trouble::StoreFault),
-            Err(EngineError::WriteFault) => Err(Trouble::OutputFault),
-            Err(EngineError::OutOfMemory) => Err(Trouble::OutOfMemory),
-        },
+        Asked::Asks(request) => answer(alloc, request, store, size, out),
     }
 }
 
-// Writes the one Error event of a refusal.
-fn write_refusal<K: FrameSink>(
+/// Writes the reply to a request over the open object, whose size is given.
+pub(crate) fn answer<S: Store, K: FrameSink>(
+    alloc: Global,
+    request: &SelectRequest,
+    store: &mut S,
+    size: u64,
+    out: &mut K,
+) -> Result<Outcome, Trouble>
+    requires object { IsOpen (S.current store.old) size }
+    requires built { is_built request.now ≡ true }
+    ensures reply { (object : List ℕ) → Tells (S.current store.old) object
+        → WritesReply K.wrap (events longest_record object (Asks request.now)) (reply_outcome object (Asks request.now))
+        (K.written out.old) (K.written out.new) result }
+    ensures early { (object : List ℕ) → Tells (S.current store.old) object → result ≡ Err Trouble.StoreFault
+        → IsNotHeldBack K.wrap object (S.taken store.new - S.taken store.old) (Asks request.now) (K.written out.old) (K.written out.new) }
+    ensures cause { IfErr result (λ trouble. CauseOf trouble ⊥ ⊥
+        (Rose (K.faults out.old) (K.faults out.new))
+        (Rose (S.faults store.old) (S.faults store.new))
+        (Keeps (K.written out.old) (K.written out.new)) ⊤) }
+    ensures near { S.taken store.new ≤ S.taken store.old + most_read_of size (Asks request.now) }
+    ensures taken { S.taken store.new ≤ S.taken store.old + size }
+    ensures held { S.held store.new ≡ S.held store.old }
+    ensures current { S.current store.new ≡ S.current store.old }
+    ensures absent { S.absent store.new ≡ S.absent store.old }
+    ensures store_faults { S.faults store.old ≤ S.faults store.new }
+    ensures out_faults { K.faults out.old ≤ K.faults out.new }
+    ensures rest { K.rest out.new ≡ K.rest out.old }
+{
+    match run_job(alloc, LIMITS, request, store, size, out) {
+        Ok(outcome) => Ok(outcome),
+        Err(EngineError::StoreFault) => Err(Trouble::StoreFault),
+        Err(EngineError::WriteFault) => Err(Trouble::OutputFault),
+        Err(EngineError::OutOfMemory) => Err(Trouble::OutOfMemory),
+    }
+}
+
+/// Writes the one Error event of a refusal.
+pub(crate) fn write_refusal<K: FrameSink>(
     alloc: Global,
     code: Code,
     at: u64,
@@ -139,7 +172,7 @@ fn write_refusal<K: FrameSink>(
     ensures reply { WritesReply K.wrap (error_event code at ∷ []) (Outcome.Faulted code at)
         (K.written out.old) (K.written out.new) result }
     ensures cause { IfErr result (λ trouble. CauseOf trouble ⊥ ⊥
-        (Rose (K.faults out.old) (K.faults out.new)) ⊥ (Keeps (K.written out.old) (K.written out.new))) }
+        (Rose (K.faults out.old) (K.faults out.new)) ⊥ (Keeps (K.written out.old) (K.written out.new)) ⊤) }
     ensures rest { K.rest out.new ≡ K.rest out.old }
 {
     match refuse(alloc, code, at, out) {

@@ -1,14 +1,21 @@
 //! The words of the commands.
-ghost use Rattle.std.specs.Prelude.{◌≡◌};
+ghost use Rattle.std.specs.Prelude.{◌≡◌, ◌≤◌, true, length, IfSome};
 ghost use Rattle.std.specs.Option.{option_map};
-ghost use Rattle.select_tool.specs.Words.{ordered, order_of};
+ghost use Rattle.select_tool.specs.Words.{tiles, ordered, order_of, has_leading_zero, number_of, above, is_few, cuts_above, cuts_of, HasAscendingCuts};
 
 use crate::listing::Listing;
+use arrayvec::ArrayVec;
+use select_request::whole_number;
+
+/// The most cuts of a tiling.
+const MOST_CUTS: usize = 1000;
 
 /// A command.
 pub(crate) enum Command<'w> {
     /// `select NAME`: the reply about the object of this name.
     Select(&'w str),
+    /// `tile NAME CUT..`: the replies to the tiles of that object between these cuts, which are bytes of it.
+    Tile(&'w str, ArrayVec<u64, MOST_CUTS>),
     /// `show` and `records`: what is listed of the replies on the input.
     List(Listing),
 }
@@ -16,12 +23,93 @@ pub(crate) enum Command<'w> {
 /// The command that the words say, if they say one.
 #[tactic(auto, unfolding(crate::specs::Words::ordered))]
 pub(crate) fn command_of(words: &[String]) -> Option<Command<'_>>
-    ensures { option_map order_of result ≡ ordered words.now }
+    ensures order { option_map order_of result ≡ ordered words.now }
+    ensures ascend { IfSome result HasAscendingCuts }
 {
     match words {
-        [verb, name] if verb.as_str() == "select" => Some(Command::Select(name.as_str())),
         [verb] if verb.as_str() == "show" => Some(Command::List(Listing::Lines)),
         [verb] if verb.as_str() == "records" => Some(Command::List(Listing::Payloads)),
+        [verb, name, cuts @ ..] if verb.as_str() == "tile" => tiling_of(name.as_str(), cuts),
+        [verb, name] if verb.as_str() == "select" => Some(Command::Select(name.as_str())),
         _ => None,
+    }
+}
+
+// The tiling of the object of this name that the words behind it say.
+fn tiling_of<'w>(name: &'w str, words: &[String]) -> Option<Command<'w>>
+    ensures order { option_map order_of result ≡ option_map (tiles name.now) (cuts_of words.now) }
+    ensures ascend { IfSome result HasAscendingCuts }
+{
+    match cuts_of(words) {
+        Some(cuts) => Some(Command::Tile(name, cuts)),
+        None => None,
+    }
+}
+
+// The cuts that the words are, one to the most.
+#[tactic(auto, unfolding(crate::specs::Words::cuts_of))]
+fn cuts_of(words: &[String]) -> Option<ArrayVec<u64, MOST_CUTS>>
+    ensures { option_map (λ cuts. cuts.items) result ≡ cuts_of words.now }
+{
+    if is_few(words.len()) {
+        ascending(words)
+    } else {
+        None
+    }
+}
+
+fn is_few(count: usize) -> bool
+    ensures is { result ≡ is_few count }
+    ensures few { result ≡ true → count ≤ 1000 }
+{
+    1 <= count && count <= MOST_CUTS
+}
+
+// The ascending numbers that the words are.
+fn ascending(words: &[String]) -> Option<ArrayVec<u64, MOST_CUTS>>
+    requires { length words.now ≤ 1000 }
+    ensures { option_map (λ cuts. cuts.items) result ≡ cuts_above 0 words.now }
+{
+    let mut cuts = ArrayVec::new();
+    let mut place = 0;
+    for word in words {
+        match above(place, number(word.as_str())) {
+            Some(cut) => {
+                cuts.push(cut);
+                place = cut;
+            }
+            None => return None,
+        }
+    }
+    Some(cuts)
+}
+
+// The number, where it is above the place.
+fn above(place: u64, number: Option<u64>) -> Option<u64>
+    ensures { result ≡ above place number }
+{
+    match number {
+        Some(number) if number > place => Some(number),
+        _ => None,
+    }
+}
+
+// The number that a word is, up to 2^63 - 1.
+fn number(word: &str) -> Option<u64>
+    ensures { result ≡ number_of word.now }
+{
+    if has_leading_zero(word.as_bytes()) {
+        None
+    } else {
+        whole_number(word)
+    }
+}
+
+fn has_leading_zero(digits: &[u8]) -> bool
+    ensures { result ≡ has_leading_zero digits.now }
+{
+    match digits {
+        [first, _, ..] => *first == b'0',
+        _ => false,
     }
 }

@@ -1,12 +1,59 @@
-use Rattle.std.proofs.Common.{◌≡◌, Some, ap, sym, ◌∙◌}
+use Rattle.std.proofs.Common.{◌≡◌, ℕ, List, Option, Some, None, ap, sym, ◌∙◌, refl, subst}
 use Rattle.std.specs.Option.{option_map}
-use Rattle.select_tool.specs.Words.{selects, order_of, ordered}
-use Rattle.select_tool.proofs.ReplyLaws.{about_selected}
+use Rattle.select_tool.specs.Commands.{Answers}
+use Rattle.select_tool.specs.Seen.{Outside}
+use Rattle.select_tool.specs.Words.{Order, selects, tiles, lists, order_of, ordered}
 use Rattle.select_tool.proofs.commands.run.Goals as goal
 
-pub returns-in-Some-Select-clause-complete : goal.returns-in-Some-Select-clause-complete
-returns-in-Some-Select-clause-complete g c =
+given : (order : Option Order) (is : Order) (status : ℕ) (before now : Outside) → order ≡ Some is → Answers (Some is) status before now → Answers order status before now
+given order is status before now chosen holds = subst (λ (o : Option Order). Answers o status before now) (sym chosen) holds
+
+pub returns-in-Some-Select-clause-answers : goal.returns-in-Some-Select-clause-answers
+returns-in-Some-Select-clause-answers g c =
     let s = c.in-Some-Select in
     let chosen : ordered c.args.words.now ≡ Some (selects s.name.now) =
-    sym c.command_of.ensures ∙ ap (option_map order_of) s.is ∙ ap (λ o. Some (order_of o)) s.field-0-is in
-    about_selected (ordered c.args.words.now) s.name.now _ chosen c.run_select.ensures.complete
+    sym c.command_of.ensures.order ∙ ap (option_map order_of) s.is ∙ ap (λ o. Some (order_of o)) s.field-0-is in
+    let e = c.run_select.ensures in
+    given (ordered c.args.words.now) (selects s.name.now) _ _ _ chosen (record {
+      about = record { two = e.two; missing = e.missing; three = e.three; four = e.four; five = e.five; unwritten = e.unwritten; complete = e.complete };
+      reply = e.reply;
+      front = e.front;
+      early = e.early;
+      seven = e.seven;
+      taken = e.taken;
+      near = e.near;
+    })
+
+pub returns-in-Some-Tile-clause-answers : goal.returns-in-Some-Tile-clause-answers
+returns-in-Some-Tile-clause-answers g c =
+    let s = c.in-Some-Tile in
+    let cuts = c.as_slice.result.now in
+    let chosen : ordered c.args.words.now ≡ Some (tiles s.name.now cuts) =
+    sym c.command_of.ensures.order ∙ ap (option_map order_of) s.is ∙ ap (λ o. Some (order_of o)) s.field-0-is
+    ∙ ap (λ (l : List ℕ). Some (tiles s.name.now l)) (sym c.as_slice.ensures.value) in
+    let e = c.run_tile.ensures in
+    given (ordered c.args.words.now) (tiles s.name.now cuts) _ _ _ chosen (record {
+      about = record { two = e.two; missing = e.missing; three = e.three; four = e.four; five = e.five; unwritten = e.unwritten; complete = e.complete };
+      reply = e.reply;
+      front = e.front;
+      seven = e.seven;
+      taken = e.taken;
+      near = e.near;
+    })
+
+pub returns-in-Some-List-clause-answers : goal.returns-in-Some-List-clause-answers
+returns-in-Some-List-clause-answers g c =
+    let s = c.in-Some-List in
+    let chosen : ordered c.args.words.now ≡ Some (lists s.listing) =
+    sym c.command_of.ensures.order ∙ ap (option_map order_of) s.is ∙ ap (λ o. Some (order_of o)) s.field-0-is in
+    let e = c.run_list.ensures in
+    given (ordered c.args.words.now) (lists s.listing) _ _ _ chosen (record {
+      listed = e.listed;
+      front = e.front;
+      three = e.three;
+      four = e.four;
+      seven = e.seven;
+      eight = e.eight;
+      complete = e.complete;
+      unused = refl;
+    })
