@@ -1,11 +1,8 @@
 -- What `tile` writes and reads, of the told object and body.
-use Rattle.std.proofs.Common.{◌≡◌, ℕ, zero, suc, ◌+◌, ◌*◌, ◌≤◌, ◌⊎◌, inl, inr, Bool, true, false, List, [], ◌∷◌, ◌++◌, length, map, Option, None, Some, Result, Ok, Err, IfSome, refl, sym, ap, ◌∙◌, subst, append-nil, add-one, arith, min, if◌then◌else◌}
+use Rattle.std.proofs.Common.{◌≡◌, ℕ, suc, ◌+◌, ◌*◌, ◌≤◌, Bool, true, false, List, [], ◌∷◌, length, map, Option, None, Some, Result, Ok, Err, IfSome, refl, sym, ap, ◌∙◌, subst, add-one, arith, min}
 use Rattle.std.proofs.Math.Nat.{suc-mul}
-use Rattle.std.specs.Prelude.{sum_by, IfOk, IfErr}
-use Rattle.std.specs.Io.KnownBytes.{Appends, Keeps}
+use Rattle.std.specs.Prelude.{IfOk}
 use Rattle.std.proofs.lemmas.List.Sums.{sum_by-cons}
-use Rattle.select_ports.specs.Causes.{Rose}
-use Rattle.select_ports.specs.Streams.{AppendsFront}
 use Rattle.select_ports.specs.Stored.{Objects, Opened, OpensName}
 use Rattle.line_window.specs.Sliding.{Tells}
 use Rattle.select_request.specs.Values.{allows_range}
@@ -14,12 +11,11 @@ use Rattle.select_request.specs.declared.request.ScanRange.{ScanRange}
 use Rattle.select_engine.specs.declared.asked.Asked.{Asked}
 use Rattle.select_engine.specs.declared.asked.Asked.TheVariants.{Refused, Asks}
 use Rattle.select_reply.specs.declared.code.Code.TheVariants.{UnsupportedScanRangeInput}
-use Rattle.select_engine.specs.Prepared.{Prepares, EachAsksOneThing, is_built}
+use Rattle.select_engine.specs.Prepared.{Prepares, is_built}
 use Rattle.select_engine.specs.Tiling.{Ascend}
 use Rattle.select_tool.specs.declared.trouble.Trouble.{Trouble}
-use Rattle.select_tool.specs.declared.trouble.Trouble.TheVariants.{BadWords, NoSuchKey, InputFault, OutputFault, StoreFault, OutOfMemory, BadReply}
-use Rattle.select_tool.specs.Replies.{IfTold, CauseOf, most_read_of}
-use Rattle.select_tool.specs.Tiles.{with_range, tile_of, tile_ranges, tiles_of, replies_frames, any_error, most_read_of_all, WritesReplies, WritesSome, TiledInPart, IsTiledShort, TiledToReply, IsTiledToReply, TookNearTiles, TookOnceATile}
+use Rattle.select_tool.specs.Replies.{IfTold, most_read_of}
+use Rattle.select_tool.specs.Tiles.{with_range, tile_of, tile_ranges, tiles_of, most_read_of_all, WritesReplies, TookOnceATile}
 use Rattle.select_tool.specs.Whole.{TilesMakeWhole, EachTilingMakesWhole, Tiled}
 
 -- ---- what is read
@@ -108,61 +104,6 @@ module _ (held : Option Objects) (left : Option (List ℕ)) (name : List ℕ) (s
     whole = tiles_make law object cuts asked up;
   })
   all_tiled law up (Err trouble) written = tt
-
-  pub tiled_short : (result : Result Bool Trouble)
-      → ((object : List ℕ) → Tells opened object → WritesReplies (λ frame. frame) object (tiles_of asked cuts) before now result)
-      → IfErr result (λ trouble. IfTold held left name (λ object body. IsTiledShort object body cuts before now))
-  tiled_short (Ok erred) written = tt
-  tiled_short (Err trouble) written = about_opened held left name size opened _ opens (λ object body tells is. inr (record {
-    asked = asked;
-    prepared = prepared left asked body read is;
-    written = written object tells;
-  }))
-
-  pub tiled_to_reply : ((object : List ℕ) → Tells opened object → WritesSome (λ frame. frame) object (tiles_of asked cuts) before now)
-      → IfTold held left name (λ object body. IsTiledToReply object body cuts before now)
-  tiled_to_reply written = about_opened held left name size opened _ opens (λ object body tells is. inr (record {
-    asked = asked;
-    prepared = prepared left asked body read is;
-    written = written object tells;
-  }))
-
--- the cause of a trouble of a reply is one of the command's
-pub cause_kept : (trouble : Trouble) (memory_first nothing_first missing input output store memory nothing output_more store_more : Type 0)
-    → (output → output_more) → (store → store_more) → (trouble ≡ OutOfMemory → memory)
-    → CauseOf trouble ⊥ ⊥ output store memory_first nothing_first → CauseOf trouble missing input output_more store_more memory nothing
-cause_kept BadWords memory_first nothing_first missing input output store memory nothing output_more store_more o s m cause = cause
-cause_kept NoSuchKey memory_first nothing_first missing input output store memory nothing output_more store_more o s m cause = absurd cause.0
-cause_kept InputFault memory_first nothing_first missing input output store memory nothing output_more store_more o s m cause = absurd cause.0
-cause_kept OutputFault memory_first nothing_first missing input output store memory nothing output_more store_more o s m cause = o cause
-cause_kept StoreFault memory_first nothing_first missing input output store memory nothing output_more store_more o s m cause = s cause
-cause_kept OutOfMemory memory_first nothing_first missing input output store memory nothing output_more store_more o s m cause = m refl
-cause_kept (BadReply at) memory_first nothing_first missing input output store memory nothing output_more store_more o s m cause = cause
-
--- what holds where memory was refused
-pub of_memory : (trouble : Trouble) (missing input output store memory nothing : Type 0) → trouble ≡ OutOfMemory
-    → CauseOf trouble missing input output store memory nothing → memory
-of_memory trouble missing input output store memory nothing is cause =
-    subst (λ (t : Trouble). CauseOf t missing input output store memory nothing) is cause
-
-pub rose_later : (a b c : ℕ) → a ≤ b → Rose b c → Rose a c
-rose_later a b c kept rose = omega (arith, kept, rose)
-
-pub rose_before : (a b c : ℕ) → b ≤ c → Rose a b → Rose a c
-rose_before a b c kept rose = omega (arith, kept, rose)
-
--- ---- of the body alone
-
-one_asked : EachAsksOneThing → (body : List ℕ) (asked : Asked) → Prepares body asked → (P : Asked → Type 0) → P asked → (other : Asked) → Prepares body other → P other
-one_asked one body asked prepared P holds other also = subst P (one body asked other prepared also) holds
-
-pub near_tiles : EachAsksOneThing → (left : Option (List ℕ)) (size : ℕ) (told : Option (List ℕ)) (opened : Opened) (cuts : List ℕ) (asked : Asked) (before now : ℕ)
-    → opened ≡ Some (size, told) → IfSome left (λ body. Prepares body asked) → now ≤ before + most_read_of_all size (tiles_of asked cuts)
-    → IfSome left (λ body. TookNearTiles opened body cuts before now)
-near_tiles one None size told opened cuts asked before now is read near = tt
-near_tiles one (Some body) size told opened cuts asked before now is read near =
-    subst (λ (o : Opened). TookNearTiles o body cuts before now) (sym is)
-    (one_asked one body asked read (λ other. now ≤ before + most_read_of_all size (tiles_of other cuts)) near)
 
 pub once_a_tile : (size : ℕ) (told : Option (List ℕ)) (opened : Opened) (cuts : List ℕ) (asked : Asked) (before now : ℕ)
     → opened ≡ Some (size, told) → now ≤ before + most_read_of_all size (tiles_of asked cuts) → TookOnceATile opened cuts before now

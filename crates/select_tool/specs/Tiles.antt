@@ -59,13 +59,15 @@ abbrev pub most_read_of_all : ℕ → List Asked → ℕ
 most_read_of_all size asks = sum_by (λ asked. min size (most_read_of size asked)) asks
 
 -- the replies were written whole, and told was whether one of them has an Error event; or a front of them was written
-abbrev pub WritesReplies : {E : Type 0} → (List ℕ → List ℕ) → List ℕ → List Asked → Option (List ℕ) → Option (List ℕ) → Result Bool E → Type 0
+abbrev pub WritesReplies : {E : Type 0} → (List ℕ → List ℕ) → List ℕ → List Asked → Option (List ℕ) → Option (List ℕ)
+    → Result Bool E → Type 0
 WritesReplies wrap object asks before now result = MatchResult result
     (λ erred. Appends before now (replies_frames wrap object asks) × (erred ≡ any_error object asks))
     (λ _. AppendsFront before now (replies_frames wrap object asks))
 
 -- the replies to the first of all tiles were written, and those to the tiles that are left are to come
-pub record TiledSoFar (wrap : List ℕ → List ℕ) (object : List ℕ) (request : SelectRequest) (all left : List ScanRange) (erred : Bool) (before now : Option (List ℕ)) : Type 0 where
+pub record TiledSoFar (wrap : List ℕ → List ℕ) (object : List ℕ) (request : SelectRequest) (all left : List ScanRange)
+    (erred : Bool) (before now : Option (List ℕ)) : Type 0 where
   pub done : List ScanRange
   pub split : all ≡ done ++ left
   pub told : erred ≡ any_error object (map (tile_of request) done)
@@ -100,7 +102,8 @@ IsTiledToReply object body cuts before now = Keeps before now ⊎ TiledToReply o
 -- no more was read of the open object than the tiles of what the body asks need
 abbrev pub TookNearTiles : Opened → List ℕ → List ℕ → ℕ → ℕ → Type 0
 TookNearTiles None body cuts before now = now ≡ before
-TookNearTiles (Some object) body cuts before now = (asked : Asked) → Prepares body asked → now ≤ before + most_read_of_all object.0 (tiles_of asked cuts)
+TookNearTiles (Some object) body cuts before now =
+    (asked : Asked) → Prepares body asked → now ≤ before + most_read_of_all object.0 (tiles_of asked cuts)
 
 -- no byte of the open object was read twice for one tile; with none open nothing was read
 abbrev pub TookOnceATile : Opened → List ℕ → ℕ → ℕ → Type 0

@@ -46,7 +46,8 @@ above place (Some number) = if nat_lt place number then Some number else None
 -- the cuts that words are: numbers, the first above the place, and each above the one before
 abbrev pub cuts_above : ℕ → List (String Global) → Option (List ℕ)
 cuts_above place [] = Some []
-cuts_above place (word ∷ words) = option_and_then (λ cut. option_map (λ cuts. cut ∷ cuts) (cuts_above cut words)) (above place (number_of (string_bytes word)))
+cuts_above place (word ∷ words) =
+    option_and_then (λ cut. option_map (λ cuts. cut ∷ cuts) (cuts_above cut words)) (above place (number_of (string_bytes word)))
 
 -- one to the most
 abbrev pub is_few : ℕ → Bool

@@ -6,7 +6,8 @@ ghost use Rattle.select_engine.specs.Tiling.{Ascend};
 ghost use Rattle.select_tool.specs.Commands.{Answers};
 ghost use Rattle.select_tool.specs.Words.{selects, tiles, lists, ordered};
 ghost use Rattle.select_tool.specs.Input.{IsUnread, most_of_body, most_of_replies, most_read};
-ghost use Rattle.select_tool.specs.Replies.{IfTold, IsReplied, IsCutShort, IsHeld, IsLacking, NotHeldBack, Misses, TookNear, TookOnce, IsStatusOf, line_of_status, status_of_outcome, WritesUnlessFaulty};
+ghost use Rattle.select_tool.specs.Replies.{IfTold, IsReplied, IsCutShort, IsHeld, IsLacking, NotHeldBack, Misses, TookNear};
+ghost use Rattle.select_tool.specs.Replies.{TookOnce, IsStatusOf, line_of_status, status_of_outcome, WritesUnlessFaulty};
 ghost use Rattle.select_tool.specs.Statuses.{status_of, line_of};
 ghost use Rattle.select_tool.specs.Tiles.{IsTiledShort, IsTiledToReply, TookNearTiles, TookOnceATile};
 ghost use Rattle.select_tool.specs.Whole.{IsTiled};
@@ -43,7 +44,7 @@ use std::alloc::Global;
 /// | 3 | the input failed, or gave more than 2^40 bytes to `show` or `records` | `input fault` |
 /// | 4 | the output failed | `output fault` |
 /// | 5 | the store failed | `store fault` |
-/// | 7 | memory was refused: before anything was written, for `tile` after some of the replies, each whole, and for `show` and `records` before anything was read | `out of memory` |
+/// | 7 | memory was refused, before anything was written, for `show` and `records` before anything was read; `tile` may have written some replies, each whole | `out of memory` |
 /// | 8 | `show`, `records`: a frame is bad at the place P of the input, or the input ends at P inside a reply or before the first one | `bad reply at P` |
 ///
 /// A failure of `err` is passed over.

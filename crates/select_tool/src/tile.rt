@@ -10,8 +10,10 @@ ghost use Rattle.select_engine.specs.Jobs.{WritesReply};
 ghost use Rattle.select_engine.specs.Prepared.{IsBuiltIfAsked, is_built};
 ghost use Rattle.select_engine.specs.Tiling.{Ascend};
 ghost use Rattle.select_tool.specs.Input.{IsUnread, most_of_body};
-ghost use Rattle.select_tool.specs.Replies.{IfTold, IsLacking, IsMissingOrFault, Misses, CauseOf, longest_record, most_read_of, reply_outcome};
-ghost use Rattle.select_tool.specs.Tiles.{IsTiledShort, IsTiledToReply, TookNearTiles, TookOnceATile, WritesReplies, WritesSome, has_error, most_read_of_all, tile_of, tile_ranges, tiles_of, with_range};
+ghost use Rattle.select_tool.specs.Replies.{IfTold, IsLacking, IsMissingOrFault, Misses, CauseOf, longest_record, most_read_of};
+ghost use Rattle.select_tool.specs.Replies.{reply_outcome};
+ghost use Rattle.select_tool.specs.Tiles.{IsTiledShort, IsTiledToReply, TookNearTiles, TookOnceATile, WritesReplies, WritesSome};
+ghost use Rattle.select_tool.specs.Tiles.{has_error, most_read_of_all, tile_of, tile_ranges, tiles_of, with_range};
 ghost use Rattle.select_tool.specs.Whole.{Tiled};
 
 use crate::laws::replies_make_the_whole;

@@ -1,7 +1,8 @@
 //! The words of the commands.
 ghost use Rattle.std.specs.Prelude.{◌≡◌, ◌≤◌, true, length, IfSome};
 ghost use Rattle.std.specs.Option.{option_map};
-ghost use Rattle.select_tool.specs.Words.{tiles, ordered, order_of, has_leading_zero, number_of, above, is_few, cuts_above, cuts_of, HasAscendingCuts};
+ghost use Rattle.select_tool.specs.Words.{tiles, ordered, order_of, has_leading_zero, number_of, above, is_few, cuts_above};
+ghost use Rattle.select_tool.specs.Words.{cuts_of, HasAscendingCuts};
 
 use crate::listing::Listing;
 use arrayvec::ArrayVec;
