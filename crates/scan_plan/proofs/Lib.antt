@@ -1,0 +1,4 @@
+mod Digits
+mod Examples
+mod LawfulBounds
+mod LawfulPlans

@@ -1,0 +1,7 @@
+pub mod Bounds
+pub mod Digits
+pub mod Finds
+pub mod Order
+pub mod Paths
+pub mod Plans
+pub mod Trees
