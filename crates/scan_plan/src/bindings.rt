@@ -3,7 +3,8 @@ ghost use Rattle.std.specs.Prelude.{◌≡◌, ◌<◌, true, map, nat_lt, IfOk,
 ghost use Rattle.std.specs.List.{list_all};
 ghost use Rattle.sql_lawful.specs.Lawful.{IsLawful, is_lawful_agg, is_lawful_item, is_lawful_total, is_lawful_selection, is_lawful_filter};
 ghost use Rattle.scan_plan.specs.Finds.{has_wrong_source};
-ghost use Rattle.scan_plan.specs.Plans.{bound_agg, bound_item, bound_total, bound_selection, bound_filter, plan_with, planned, Binds, IsLawfulPlan};
+ghost use Rattle.scan_plan.specs.Plans.{bound_agg, bound_item, bound_total, bound_selection, bound_filter, plan_with, planned};
+ghost use Rattle.scan_plan.specs.Plans.{Binds, IsLawfulPlan};
 
 use crate::bounds::{Binding, bind_expr};
 use crate::columns::Columns;

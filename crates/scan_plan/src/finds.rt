@@ -3,7 +3,8 @@ ghost use Rattle.std.specs.Prelude.{◌≡◌, ◌++◌, ◌∷◌, [], map, OnO
 ghost use Rattle.sql_grammar.specs.Faults.{source_name};
 ghost use Rattle.scan_plan.specs.Paths.{found};
 ghost use Rattle.scan_plan.specs.Order.{joined};
-ghost use Rattle.scan_plan.specs.Finds.{expr_finds, arm_finds, prod_part_finds, sum_part_finds, item_finds, agg_finds, total_finds, each_column, all_finds, selection_finds, filter_finds, query_finds};
+ghost use Rattle.scan_plan.specs.Finds.{expr_finds, arm_finds, prod_part_finds, sum_part_finds, item_finds, agg_finds};
+ghost use Rattle.scan_plan.specs.Finds.{total_finds, each_column, all_finds, selection_finds, filter_finds, query_finds};
 
 use crate::columns::{Column, Columns};
 use crate::paths::{Found, find, read_as};

@@ -1,7 +1,8 @@
 //! The names of what is selected.
 ghost use Rattle.std.specs.Prelude.{◌≡◌, ◌++◌, codes, decimal, IfOk, slice_get};
 ghost use Rattle.std.specs.Option.{option_copied, option_or};
-ghost use Rattle.scan_plan.specs.Plans.{step_name, last_name, path_name, given_name, name_or_number, item_name, total_name, item_names, total_names, selection_names};
+ghost use Rattle.scan_plan.specs.Plans.{step_name, last_name, path_name, given_name, name_or_number, item_name, total_name};
+ghost use Rattle.scan_plan.specs.Plans.{item_names, total_names, selection_names};
 
 use sql_grammar::{Expr, Item, Name, PathStep, Selection, Total};
 use sql_tokens::TextBuf;

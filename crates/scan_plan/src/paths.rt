@@ -4,7 +4,8 @@ ghost use Rattle.std.specs.List.{position_from};
 ghost use Rattle.std.specs.Option.{option_copied};
 ghost use Rattle.std.specs.Str.{str_eq_ignore_ascii_case};
 ghost use Rattle.sql_grammar.specs.Faults.{is_same_name, source_name};
-ghost use Rattle.scan_plan.specs.Paths.{is_named, rest_of, only_name, matches, counted, place_counted, field_named, column_named, field_or_unknown, column_or_unknown, read_as, found_by_name, found_at, found};
+ghost use Rattle.scan_plan.specs.Paths.{is_named, rest_of, only_name, matches, counted, place_counted, field_named, column_named};
+ghost use Rattle.scan_plan.specs.Paths.{field_or_unknown, column_or_unknown, read_as, found_by_name, found_at, found};
 ghost use Rattle.scan_plan.specs.Digits.{value_from, next_value};
 
 use crate::columns::{Column, Columns, Readable};
