@@ -2,3 +2,4 @@ mod Digits
 mod Examples
 mod LawfulBounds
 mod LawfulPlans
+mod PlanSteps

@@ -166,7 +166,6 @@ fn plan(
 /// A fault is the first in this order: a path in FROM where the input is no document; the paths of what is selected and then of the
 /// condition, as they stand in the text, each of which is a fault where it names no column, or one of a file that can't be read; more
 /// than 128 columns of a file.
-#[tactic(auto, using(crate::proofs::LawfulPlans::planned_is_lawful))]
 pub fn bind(alloc: Global, query: &Query, columns: &Columns) -> Result<Plan, BindError>
     requires { IsLawful query.now }
     ensures binds { Binds (planned columns.now query.now) result }
