@@ -16,3 +16,4 @@ pub mod Membered
 pub mod Reading
 pub mod Lanes
 pub mod Squeezing
+pub mod Functions

@@ -1,14 +1,17 @@
 -- What a checked value is, and the walks over its tree.
-use Rattle.std.specs.Prelude.{◌≡◌, ℕ, true, false, List, [], ◌∷◌, ◌++◌, Option, None, Some}
-use Rattle.std.specs.Str.{chars, IsUtf8, IsValidUpTo}
+use Rattle.std.specs.Prelude.{◌≡◌, ℕ, true, false, List, [], ◌∷◌, ◌++◌, Option, None, Some, Result, Ok, Err, if◌then◌else◌}
+use Rattle.std.specs.Str.{chars, IsUtf8, is_utf8, IsValidUpTo}
 use Rattle.text_view.specs.JsonString.{unescaped_text}
 use Rattle.json_text.specs.Grammar.{Json, null, truth, number, string, empty_array, array, empty_object, object, print, IsValue, AreBlanks}
 use Rattle.json_text.specs.Texts.{levels, IsParsingFault, IsTooDeep}
-use Rattle.json_text.specs.Machine.{class}
+use Rattle.json_text.specs.Machine.{class, Verdict, accepted, unfit, too_deep, verdict}
+use Rattle.json_text.specs.Trimmed.{content, skip_blanks}
 use Rattle.json_text.specs.declared.bytes.Class.{Class}
 use Rattle.json_text.specs.declared.bytes.Class.TheVariants.{Quote, ArrayBegin, ObjectBegin, LetterN, LetterT, LetterF}
 use Rattle.json_text.specs.declared.checking.JsonCode.{JsonCode}
 use Rattle.json_text.specs.declared.checking.JsonCode.TheVariants.{InvalidTextEncoding, JSONParsingError, JSONTooDeep}
+use Rattle.json_text.specs.declared.checking.JsonFault.{JsonFault}
+use Rattle.json_text.specs.declared.machine.Mode.TheVariants.{ValueDue}
 use Rattle.json_text.specs.declared.node.Kind.{Kind}
 use Rattle.json_text.specs.declared.node.Kind.TheVariants.{Null, Bool as BoolKind, Number, Text, Array, Object}
 
@@ -35,6 +38,39 @@ abbrev pub IsFault : List ℕ → JsonCode → ℕ → Type 0
 IsFault bytes InvalidTextEncoding at = (IsUtf8 bytes → ⊥) × IsValidUpTo bytes at
 IsFault bytes JSONParsingError at = IsUtf8 bytes × IsParsingFault bytes at
 IsFault bytes JSONTooDeep at = IsUtf8 bytes × IsTooDeep bytes at
+
+-- ---- the same as a function
+
+-- the value's own bytes, or why there is none, by what a reader says of all bytes
+abbrev pub value_by : Verdict → List ℕ → Result (List ℕ) JsonCode
+value_by accepted bytes = Ok (content (skip_blanks bytes))
+value_by (unfit at) bytes = Err JSONParsingError
+value_by (too_deep at) bytes = Err JSONTooDeep
+
+-- the own bytes of the value that the bytes stand for, or why they are no JSON text
+unfoldable pub value_of : List ℕ → Result (List ℕ) JsonCode
+value_of bytes = if is_utf8 bytes then value_by (verdict bytes ValueDue [] 0) bytes else Err InvalidTextEncoding
+
+-- an answer without the place of its fault
+abbrev pub without_place : Result (List ℕ) JsonFault → Result (List ℕ) JsonCode
+without_place (Ok token) = Ok token
+without_place (Err fault) = Err fault.code
+
+-- the bytes have this fault at some place
+pub record HasFault (bytes : List ℕ) (code : JsonCode) : Type 0 where
+  pub at : ℕ
+  pub fault : IsFault bytes code at
+
+-- the bytes are a text of this value, or have this fault
+abbrev pub IsTold : List ℕ → Result (List ℕ) JsonCode → Type 0
+IsTold bytes (Ok token) = IsUtf8 bytes × StandsIn bytes token × IsNode token
+IsTold bytes (Err code) = HasFault bytes code
+
+-- the function gives the value of each text, and a fault of all other bytes
+abbrev pub EachTextIsTold : Type 0
+EachTextIsTold = (bytes : List ℕ) → IsTold bytes (value_of bytes)
+
+-- ---- walks
 
 abbrev pub kind_of : Json → Kind
 kind_of null = Null

@@ -1,7 +1,7 @@
 //! Bytes are checked to be a JSON text.
 ghost use Rattle.std.specs.Prelude.{◌≡◌, IfOk, IfErr, MatchResult};
 ghost use Rattle.std.specs.Str.{IsUtf8, IsValidUpTo};
-ghost use Rattle.json_text.specs.Nodes.{IsNode, StandsIn, IsFault};
+ghost use Rattle.json_text.specs.Nodes.{IsNode, StandsIn, IsFault, value_of, without_place};
 
 use crate::judge::{Judged, judge};
 use crate::node::JsonNode;
@@ -33,6 +33,7 @@ pub fn check<'r>(bytes: &'r [u8]) -> Result<JsonNode<'r>, JsonFault>
     ensures ok { IfOk result (λ node. StandsIn bytes.now node) }
     ensures sound { IfOk result (λ node. ∥ IsNode node ∥₁) }
     ensures err { IfErr result (λ fault. IsFault bytes.now fault.code fault.at) }
+    ensures function { without_place result ≡ value_of bytes.now }
 {
     let text = match text_of(bytes) {
         Ok(text) => text,

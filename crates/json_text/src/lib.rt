@@ -6,6 +6,7 @@ mod checking;
 mod compact;
 mod elements;
 mod judge;
+mod laws;
 mod machine;
 mod members;
 mod nest;
@@ -17,6 +18,7 @@ mod trim;
 
 pub use crate::checking::{JsonCode, JsonFault, check};
 pub use crate::elements::Elements;
+pub use crate::laws::text_is_told_by_a_function;
 pub use crate::members::{JsonMember, Members};
 pub use crate::node::{JsonNode, Kind};
 pub use crate::runs::plain_end;
