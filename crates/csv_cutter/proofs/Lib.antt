@@ -10,3 +10,4 @@ pub mod Looking
 pub mod Moving
 pub mod Loans
 pub mod Taking
+pub mod Functions

@@ -1,6 +1,6 @@
 -- What reading a line gives: its fields as texts, or the fault that comes first.
-use Rattle.std.specs.Prelude.{◌≡◌, ℕ, ◌<◌, ◌≤◌, true, List, [], ◌∷◌, length, map, take, All, Option, None, Some, Result, Ok, Err}
-use Rattle.std.specs.Str.{chars, IsUtf8}
+use Rattle.std.specs.Prelude.{◌≡◌, ℕ, ◌<◌, ◌≤◌, nat_lt, true, List, [], ◌∷◌, length, map, take, All, Option, None, Some, Result, Ok, Err, if◌then◌else◌}
+use Rattle.std.specs.Str.{chars, IsUtf8, is_utf8}
 use Rattle.byte_masks.specs.declared.split.Span.{Span}
 use Rattle.byte_masks.specs.Parts.{part}
 use Rattle.text_view.specs.QuotedField.{IsPlainField}
@@ -29,6 +29,17 @@ abbrev pub IsRead : Dialect → List ℕ → Result (List (List ℕ)) CsvFault �
 IsRead d line (Ok texts) = HasFields d line texts
 IsRead d line (Err InvalidTextEncoding) = ¬ (IsUtf8 line)
 IsRead d line (Err TooManyFields) = HasTooMany d line
+
+-- the same as a function: the texts of the fields that the line is cut into
+unfoldable pub fields_of : Dialect → List ℕ → Result (List (List ℕ)) CsvFault
+fields_of d line =
+    if is_utf8 line
+    then (if nat_lt 65536 (length (cut_fields d line)) then Err TooManyFields else Ok (map (λ spelled. text_of d (chars spelled)) (cut_fields d line)))
+    else Err InvalidTextEncoding
+
+-- the function gives what reading each line gives
+abbrev pub EachLineIsReadSo : Type 0
+EachLineIsReadSo = (d : Dialect) → is_valid d ≡ true → (line : List ℕ) → IsRead d line (fields_of d line)
 
 -- of the texts that a line's fields stand for, these are the first ones
 pub record HasFirst (d : Dialect) (line : List ℕ) (wanted : ℕ) (lent : List (List ℕ)) : Type 0 where

@@ -5,7 +5,7 @@ ghost use Rattle.std.specs.Str.{chars, IsUtf8};
 ghost use Rattle.csv_cutter.specs.Dialects.{is_valid};
 ghost use Rattle.csv_cutter.specs.Fields.{begins_with, text_of};
 ghost use Rattle.csv_cutter.specs.Walk.{IsLegible};
-ghost use Rattle.csv_cutter.specs.Reading.{IsRead, IsReadFirst, text_at, IsFilled, IsFilledFirst, IsCutInto, AreWanted, IsPlainSpelled};
+ghost use Rattle.csv_cutter.specs.Reading.{IsRead, IsReadFirst, fields_of, text_at, IsFilled, IsFilledFirst, IsCutInto, AreWanted, IsPlainSpelled};
 
 use crate::Dialect;
 use crate::walk::field_end;
@@ -293,7 +293,8 @@ impl<'r> Fields<'r> {
     ) -> Result<Fields<'r>, CsvFault>
         requires valid { is_valid dialect.now ≡ true }
         requires short { length line.now < 2 ^ 31 }
-        ensures { IsRead dialect.now line.now result }
+        ensures read { IsRead dialect.now line.now result }
+        ensures function { result ≡ fields_of dialect.now line.now }
     {
         match spans.fill(dialect, line) {
             Ok(count) => Ok(spans.lend(dialect, line, count)),
