@@ -14,7 +14,7 @@ use std::rt::Files;
 use std::test::Fail;
 
 /// The tables, in the order in which they are told, and what their rows are.
-const TABLES: [(&str, Kind); 24] = [
+const TABLES: [(&str, Kind); 25] = [
     ("operations.tsv", Kind::Operations),
     ("numbers.tsv", Kind::Numbers),
     ("decimals.tsv", Kind::Decimals),
@@ -31,6 +31,7 @@ const TABLES: [(&str, Kind); 24] = [
     ("fields.tsv", Kind::Fields),
     ("likes.tsv", Kind::Likes),
     ("trims.tsv", Kind::Trims),
+    ("cuts.tsv", Kind::Cuts),
     ("plain.tsv", Kind::Plain),
     ("pushes.tsv", Kind::Pushes),
     ("structs.tsv", Kind::Structs),
@@ -60,6 +61,7 @@ enum Kind {
     Fields,
     Likes,
     Trims,
+    Cuts,
     Plain,
     Pushes,
     Structs,
@@ -90,6 +92,7 @@ impl Tell for Kind {
             Kind::Fields => texts::tell_field(alloc, row),
             Kind::Likes => texts::tell_like(alloc, row),
             Kind::Trims => texts::tell_trimmed(alloc, row),
+            Kind::Cuts => texts::tell_cut(alloc, row),
             Kind::Plain => texts::tell_plain(alloc, row),
             Kind::Pushes => texts::tell_pushed(alloc, row),
             Kind::Structs => thrift::tell_struct(alloc, row),

@@ -83,6 +83,28 @@ pub(crate) fn tell_trimmed(alloc: Global, row: &Row) -> Result<String, Fail> {
     Ok(told)
 }
 
+/// A spelled text, its escape (none for the inside of a JSON string), a place and a count: so many characters from that place on,
+/// how many they are, and what of them is left without blanks at the end, and from the second on.
+pub(crate) fn tell_cut(alloc: Global, row: &Row) -> Result<String, Fail> {
+    let mut told = String::new(alloc);
+    let raw = row.text(0)?;
+    let text = match row.bytes(1)?.first() {
+        Some(escape) if *escape < 128 => Text::quoted(raw, b'"', *escape),
+        _ => Text::json(raw),
+    };
+    let part = text.sub(row.number(2)?, row.number(3)?);
+    show_text(alloc, &mut told, &part)?;
+    let count = part.len_chars();
+    write!(told, ", {count}")?;
+    show_text(
+        alloc,
+        &mut told,
+        &part.trim(Side::Trailing, &Text::plain(" ")),
+    )?;
+    show_text(alloc, &mut told, &part.upper().sub(1, u64::MAX))?;
+    Ok(told)
+}
+
 /// What stands behind the first quote of a field, and between the quotes of a JSON string: what each is lent as, and the length
 /// of the first run of the second.
 pub(crate) fn tell_plain(alloc: Global, row: &Row) -> Result<String, Fail> {

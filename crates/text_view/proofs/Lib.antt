@@ -1,6 +1,7 @@
 pub mod Cases
 pub mod CodePoints
 pub mod Counts
+pub mod Cuts
 pub mod Escapes
 pub mod Grammars
 pub mod Likes

@@ -17,7 +17,7 @@ use Rattle.text_view.specs.JsonString.{unescaped_text}
 use Rattle.text_view.specs.Spelled.{shown, cased, spelled, special}
 use Rattle.text_view.specs.Room.{Room}
 use Rattle.text_view.proofs.Escapes.{unquoted_nil, unescaped_nil, unquoted_cons, unescaped_by_test}
-use Rattle.text_view.proofs.Shown.{shown_nil, shown_append, shown_enough, chars_short, length_spelled}
+use Rattle.text_view.proofs.Shown.{shown_nil, shown_append}
 
 -- ---- bytes and characters
 
@@ -140,54 +140,19 @@ spelled_run Json xs ys h = unescaped_run xs ys h
 
 -- ---- a run of bytes, shown in a letter case
 
--- a front that stands for itself, and how many characters are left to count
-pub run_front : (k : Case) (e : Escape) (n : ℕ) (text run rest : List ℕ) → IsUtf8 run → text ≡ run ++ rest → NonePass (special e) (chars run) → length (chars run) ≤ n
-    → shown k n (spelled e (chars text)) ≡ map (cased k) (chars run) ++ shown k (n - length (chars run)) (spelled e (chars rest))
-run_front k e n text run rest u split own fits =
-    let apart : spelled e (chars text) ≡ chars run ++ spelled e (chars rest) = ap (λ l. spelled e (chars l)) split ∙ ap (spelled e) (chars-append run rest u) ∙ spelled_run e (chars run) (chars rest) own in
-    ap (shown k n) apart ∙ shown_append k n (chars run) (spelled e (chars rest)) fits
-
--- the same where all characters count
-pub run_whole : (k : Case) (e : Escape) (n len : ℕ) (text : List ℕ) → IsUtf8 text → length text ≤ n → StandsForItself (special e) text len
-    → shown k n (spelled e (chars text)) ≡ map (cased k) (chars (take len text)) ++ shown k n (spelled e (chars (drop len text)))
-run_whole k e n len text u room run =
+-- a front that stands for itself
+pub run_whole : (k : Case) (e : Escape) (len : ℕ) (text : List ℕ) → IsUtf8 (take len text) → StandsForItself (special e) text len
+    → shown k (spelled e (chars text)) ≡ map (cased k) (chars (take len text)) ++ shown k (spelled e (chars (drop len text)))
+run_whole k e len text u run =
     let front : List ℕ = take len text in
     let back : List ℕ = drop len text in
-    let split : text ≡ front ++ back = sym (take-append-drop len text) in
-    let short : length (chars front) + length (spelled e (chars back)) ≤ n = omega (arith, chars_short front, length_spelled e (chars back), chars_short back, ap length split, length-append front back) in
-    run_front k e n text front back (IsUtf8-take text len u run.boundary) split run.own (omega arith)
-    ∙ ap (λ l. map (cased k) (chars front) ++ l) (shown_enough k (n - length (chars front)) (spelled e (chars back)) (omega arith) ∙ sym (shown_enough k n (spelled e (chars back)) (omega arith)))
-
--- a front of a front
-pub own_front : (p : ℕ → Bool) (xs run rest : List ℕ) → IsUtf8 run → xs ≡ run ++ rest → NonePass p (chars xs) → NonePass p (chars run)
-own_front p xs run rest u e h = none_left p (chars run) (chars rest) (let P : List ℕ → Type 0 = NonePass p in subst P (ap chars e ∙ chars-append run rest u) h)
+    let whole : chars text ≡ chars front ++ chars back = ap chars (sym (take-append-drop len text)) ∙ chars-append front back u in
+    ap (shown k) (ap (spelled e) whole ∙ spelled_run e (chars front) (chars back) run.own)
+    ∙ shown_append k (chars front) (spelled e (chars back))
 
 pub range_is : (n : ℕ) (bs : List ℕ) → slice_range bs 0 n ≡ take n bs
 range_is n [] = let e : n - 0 ≡ n = omega arith in ap (λ m. take m []) e
 range_is n (b ∷ bs) = let e : n - 0 ≡ n = omega arith in ap (λ m. take m (b ∷ bs)) e
-
--- a part of a front, and the text from there on
-pub record Parted (rest run behind : List ℕ) (len : ℕ) : Type 0 where
-  pub boundary : IsCharBoundary rest (length run)
-  pub split : rest ≡ run ++ drop (length run) rest
-
-pub parted : (rest front run behind : List ℕ) (len : ℕ) → IsUtf8 rest → IsCharBoundary rest len → front ≡ slice_range rest 0 len → front ≡ run ++ behind → IsUtf8 behind → Parted rest run behind len
-parted rest front run behind len u at range parts v =
-    let back : List ℕ = behind ++ drop len rest in
-    let whole : rest ≡ run ++ back = sym (take-append-drop len rest) ∙ ap (λ l. l ++ drop len rest) (sym (range_is len rest) ∙ sym range ∙ parts) ∙ append_assoc run behind (drop len rest) in
-    record {
-      boundary = IsCharBoundary-at_seam rest run back whole (IsUtf8-append behind (drop len rest) v (IsUtf8-drop rest len u at));
-      split = whole ∙ ap (λ l. run ++ l) (sym (ap (drop (length run)) whole ∙ drop_front run back (length run) refl));
-    }
-
-pub run_cut : (k : Case) (e : Escape) (n len : ℕ) (rest front run behind : List ℕ) → IsUtf8 rest → StandsForItself (special e) rest len → front ≡ slice_range rest 0 len → front ≡ run ++ behind → IsUtf8 run → IsUtf8 behind → chars run ≡ take n (chars front)
-    → shown k n (spelled e (chars rest)) ≡ map (cased k) (chars run) ++ shown k (n - length (chars run)) (spelled e (chars (drop (length run) rest)))
-run_cut k e n len rest front run behind u own range parts v w cut =
-    let P : List ℕ → Type 0 = λ l. NonePass (special e) (chars l) in
-    let same : take len rest ≡ front = sym (range ∙ range_is len rest) in
-    run_front k e n rest run (drop (length run) rest) v (parted rest front run behind len u own.boundary range parts w).split
-    (own_front (special e) front run behind v parts (subst P same own.own))
-    (omega (arith, ap length cut, length-take n (chars front)))
 
 filled : (cs bs : List ℕ) → encode_utf8_all cs ≡ bs → 0 < length bs → 0 < length cs
 filled [] bs e h = absurd (omega (arith, ap length e))
@@ -213,8 +178,8 @@ spelled_nil Plain = chars-nil
 spelled_nil (Quoted q e) = rw chars-nil (unquoted_nil q e)
 spelled_nil Json = rw chars-nil unescaped_nil
 
-pub shown_empty : (k : Case) (n : ℕ) (e : Escape) (bs : List ℕ) → bs ≡ [] → encode_utf8_all (shown k n (spelled e (chars bs))) ≡ []
-shown_empty k n e bs h = rw (h, spelled_nil e, shown_nil k n) refl
+pub shown_empty : (k : Case) (e : Escape) (bs : List ℕ) → bs ≡ [] → encode_utf8_all (shown k (spelled e (chars bs))) ≡ []
+shown_empty k e bs h = rw (h, spelled_nil e, shown_nil k) refl
 
 -- a piece that is pushed
 pub wrote : {T E : Type 0} (r : Result T E) (old new : Room) (piece was left : List ℕ) → was ≡ piece ++ left → (IsOk r → length old.bytes + length piece ≤ old.room) → OnOk r (new ≡ record { room = old.room; bytes = old.bytes ++ piece }) → OnOk r (WritesFront old new was left)

@@ -1,5 +1,6 @@
 pub mod Finding
 pub mod FirstBytes
+pub mod Fronts
 pub mod JsonString
 pub mod LikePattern
 pub mod QuotedField

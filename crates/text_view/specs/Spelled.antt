@@ -1,5 +1,5 @@
 -- A place in a lent text: which characters are still to come.
-use Rattle.std.specs.Prelude.{ℕ, ◌+◌, Bool, false, ◌==◌, ◌||◌, List, [], ◌∷◌, map, take, if◌then◌else◌}
+use Rattle.std.specs.Prelude.{ℕ, ◌+◌, Bool, false, ◌==◌, ◌||◌, List, [], ◌∷◌, map, if◌then◌else◌}
 use Rattle.std.specs.Str.{chars}
 use Rattle.std.specs.Char.{to_ascii_uppercase, to_ascii_lowercase}
 use Rattle.text_view.specs.declared.cursor.Escape.{Escape}
@@ -22,13 +22,13 @@ cased Kept c = c
 cased Upper c = to_ascii_uppercase c
 cased Lower c = to_ascii_lowercase c
 
--- at most `limit` of the characters, in that case
-unfoldable pub shown : Case → ℕ → List ℕ → List ℕ
-shown letters limit cs = map (cased letters) (take limit cs)
+-- the characters of a text in that case
+unfoldable pub shown : Case → List ℕ → List ℕ
+shown letters cs = map (cased letters) cs
 
 -- the characters that are still to come
 abbrev pub seen : Cursor → List ℕ
-seen c = shown c.case c.limit (spelled c.escape (chars c.rest.now))
+seen c = shown c.case (spelled c.escape (chars c.rest.now))
 
 -- The number of characters up to the last that fails the test, where `passed` characters were passed
 -- and `kept` of them are kept.

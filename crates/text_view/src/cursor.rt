@@ -1,5 +1,5 @@
 //! A place in a lent text, and the step from character to character through its escapes.
-ghost use Rattle.std.specs.Prelude.{◌≡◌, ◌+◌, ◌<◌, ◌≤◌, [], ◌∷◌, length, take, drop, map, MatchOption, IfSome, ⊤, ◌↔◌, IsTrue};
+ghost use Rattle.std.specs.Prelude.{◌≡◌, ◌==◌, ◌&&◌, ◌+◌, ◌<◌, ◌≤◌, [], ◌∷◌, ◌++◌, length, take, drop, map, MatchOption, IfSome, ⊤, ◌↔◌, IsTrue};
 ghost use Rattle.std.specs.Str.{chars};
 ghost use Rattle.std.specs.Char.{to_ascii_uppercase, to_ascii_lowercase};
 ghost use Rattle.std.specs.Ordering.{nat_cmp};
@@ -7,6 +7,8 @@ ghost use Rattle.std.specs.Cmp.Lexicographic.{slice_cmp};
 ghost use Rattle.text_view.specs.Spelled.{spelled, seen, cased};
 ghost use Rattle.text_view.specs.QuotedField.{unquoted, begins_special};
 ghost use Rattle.text_view.specs.JsonString.{unescaped_text, take_escape};
+ghost use Rattle.text_view.specs.Fronts.{Walks, CutsBefore, EndsIn};
+ghost use Rattle.text_view.specs.declared.cursor.Escape.TheVariants.{Plain, Quoted, Json};
 
 use crate::characters::{split_char, split_chars};
 use crate::json::unescaped;
@@ -32,11 +34,10 @@ pub(crate) enum Case {
     Lower,
 }
 
-/// The bytes that are still to be read, and at most how many characters still count.
+/// The bytes that are still to be read, and how they spell what is to come.
 #[derive(Clone, Copy)]
 pub(crate) struct Cursor<'r> {
     pub(crate) rest: &'r str,
-    pub(crate) limit: u64,
     pub(crate) escape: Escape,
     pub(crate) case: Case,
 }
@@ -57,6 +58,7 @@ impl Escape {
             (λ s. spelled self (chars text.now) ≡ s.character ∷ spelled s.escape (chars s.rest.now)) }
         ensures shorter { MatchOption result ⊤
             (λ s. length s.rest.now < length text.now) }
+        ensures walks { IfSome result (λ s. Walks self (chars text.now) 1 s.escape (chars s.rest.now)) }
     {
         match self {
             Escape::Plain => plain_step(text),
@@ -72,6 +74,7 @@ fn plain_step(text: &str) -> Option<Step<'_>>
         (λ s. chars text.now ≡ s.character ∷ spelled s.escape (chars s.rest.now)) }
     ensures shorter { MatchOption result ⊤
         (λ s. length s.rest.now < length text.now) }
+    ensures walks { IfSome result (λ s. Walks Plain (chars text.now) 1 s.escape (chars s.rest.now)) }
 {
     let (character, rest) = split_char(text)?;
     Some(Step {
@@ -89,9 +92,10 @@ fn quoted_step(text: &str, quote: u8, escape: u8) -> Option<Step<'_>>
     ensures value { MatchOption result (unquoted quote escape (chars text.now) ≡ [])
         (λ s. unquoted quote escape (chars text.now) ≡ s.character ∷ spelled s.escape (chars s.rest.now)) }
     ensures shorter { MatchOption result ⊤ (λ s. length s.rest.now < length text.now) }
+    ensures walks { IfSome result (λ s. Walks (Quoted quote escape) (chars text.now) 1 s.escape (chars s.rest.now)) }
 {
     let (first, rest) = split_char(text)?;
-    if first == char::from(escape) && is_special(rest, quote, escape) {
+    if is_escape(first, rest, quote, escape) {
         let (second, behind) = split_char(rest)?;
         return Some(Step {
             character: second,
@@ -107,6 +111,14 @@ fn quoted_step(text: &str, quote: u8, escape: u8) -> Option<Step<'_>>
         rest,
         escape: Escape::Quoted { quote, escape },
     })
+}
+
+/// Whether the character is an escape before a quote or an escape.
+#[inline]
+fn is_escape(character: char, rest: &str, quote: u8, escape: u8) -> bool
+    ensures { result ≡ (character == escape && begins_special quote escape (chars rest.now)) }
+{
+    character == char::from(escape) && is_special(rest, quote, escape)
 }
 
 /// Whether the text begins with a quote or an escape.
@@ -127,6 +139,7 @@ fn json_step(text: &str) -> Option<Step<'_>>
     ensures value { MatchOption result (unescaped_text (chars text.now) ≡ [])
         (λ s. unescaped_text (chars text.now) ≡ s.character ∷ spelled s.escape (chars s.rest.now)) }
     ensures shorter { MatchOption result ⊤ (λ s. length s.rest.now < length text.now) }
+    ensures walks { IfSome result (λ s. Walks Json (chars text.now) 1 s.escape (chars s.rest.now)) }
 {
     let (first, rest) = split_char(text)?;
     if first == '\\' {
@@ -154,15 +167,13 @@ impl<'r> Cursor<'r> {
     }
 
     /// All characters that `text` spells.
-    #[tactic(auto, using(crate::proofs::Shown::shown_spelled))]
+    #[tactic(auto, using(crate::proofs::Shown::shown_kept))]
     pub(crate) fn spelled(text: &'r str, escape: Escape) -> Cursor<'r>
         ensures value { seen result ≡ spelled escape (chars text.now) }
         ensures same { result.rest.now ≡ text.now }
     {
-        let limit = text.as_bytes().len() as u64;
         Cursor {
             rest: text,
-            limit,
             escape,
             case: Case::Kept,
         }
@@ -198,10 +209,8 @@ impl<'r> Cursor<'r> {
         ensures value { seen result ≡ map (cased case) (chars text.now) }
         ensures same { result.rest.now ≡ text.now }
     {
-        let limit = text.as_bytes().len() as u64;
         Cursor {
             rest: text,
-            limit,
             escape: Escape::Plain,
             case,
         }
@@ -215,12 +224,10 @@ impl<'r> Cursor<'r> {
             (λ c. seen self.old ≡ c ∷ seen self.new) }
         ensures shorter { MatchOption result (length self.new.rest.now ≤ length self.old.rest.now)
             (λ _. length self.new.rest.now < length self.old.rest.now) }
+        ensures walks { MatchOption result (self.new ≡ self.old) (λ _. Walks self.old.escape
+            (chars self.old.rest.now) 1 self.new.escape (chars self.new.rest.now)) }
     {
-        if self.limit == 0 {
-            return None;
-        }
         let step = self.escape.step(self.rest)?;
-        self.limit -= 1;
         self.rest = step.rest;
         self.escape = step.escape;
         Some(self.case.of(step.character))
@@ -228,24 +235,29 @@ impl<'r> Cursor<'r> {
 
     /// Passes over the first `count` characters.
     pub(crate) fn skip(&mut self, count: u64)
-        ensures { seen self.new ≡ drop count (seen self.old) }
+        ensures value { seen self.new ≡ drop count (seen self.old) }
+        ensures front { CutsBefore self.old.escape (chars self.old.rest.now) count (chars self.new.rest.now) }
     {
         let mut left = count;
         'each: while left > 0 {
-            if self.next().is_none() {
-                return;
+            match self.next() {
+                Some(_) => left -= 1,
+                None => return,
             }
-            left -= 1;
         }
     }
 
-    /// Lets at most `count` characters come.
-    #[tactic(auto, using(crate::proofs::Shown::shown_cut))]
+    /// Cuts off what was lent behind the first `count` characters.
     pub(crate) fn cut(&mut self, count: u64)
-        ensures cut { seen self.new ≡ take count (seen self.old) }
-        ensures same { self.new.rest ≡ self.old.rest }
+        ensures { seen self.new ≡ take count (seen self.old) }
     {
-        self.limit = self.limit.min(count);
+        let text = self.rest;
+        if count >= text.as_bytes().len() as u64 {
+            return;
+        }
+        let mut ahead = *self;
+        ahead.skip(count);
+        self.rest = before(text, ahead.rest);
     }
 
     /// `count` characters from place `from` on.
@@ -320,28 +332,32 @@ impl<'r> Cursor<'r> {
         ensures { IfSome result (λ text. (seen self.now ≡ map (cased self.now.case) (chars text.now))
             × (text.now ≡ self.now.rest.now)) }
     {
-        let text = self.rest;
-        let bytes = text.as_bytes();
         match self.escape {
-            Escape::Plain if self.limit >= bytes.len() as u64 => Some(text),
+            Escape::Plain => Some(self.rest),
             _ => None,
         }
     }
 
     /// The bytes, where they are what is to come, each as it is.
     #[inline]
-    #[tactic(auto, using(crate::proofs::Shown::shown_whole))]
+    #[tactic(auto, using(crate::proofs::Shown::shown_kept))]
     pub(crate) fn whole(&self) -> Option<&'r str>
         ensures { IfSome result (λ text. (seen self.now ≡ chars text.now)
             × (text.now ≡ self.now.rest.now)) }
     {
-        let text = self.rest;
-        let bytes = text.as_bytes();
         match (self.escape, self.case) {
-            (Escape::Plain, Case::Kept) if self.limit >= bytes.len() as u64 => Some(text),
+            (Escape::Plain, Case::Kept) => Some(self.rest),
             _ => None,
         }
     }
+}
+
+/// The text before its end `behind`.
+fn before<'r>(text: &'r str, behind: &str) -> &'r str
+    requires { EndsIn (chars text.now) (chars behind.now) }
+    ensures { chars text.now ≡ chars result.now ++ chars behind.now }
+{
+    &text[..text.len() - behind.len()]
 }
 
 impl Case {

@@ -6,7 +6,7 @@ ghost use Rattle.memchr.specs.Find.{is_byte2};
 ghost use Rattle.text_view.specs.Writing.{WritesFront, StandsForItself};
 ghost use Rattle.text_view.specs.Walking.{run_chars};
 
-use crate::characters::{count_chars, split_chars};
+use crate::characters::count_chars;
 use crate::cursor::{Case, Cursor, Escape};
 use crate::output::{Buf, Full};
 use memchr::{memchr, memchr2};
@@ -97,7 +97,7 @@ impl<'r> Cursor<'r> {
         Some(run)
     }
 
-    /// Passes over `len` bytes in front, or as many of them as the limit leaves.
+    /// Passes over `len` bytes in front.
     #[inline]
     fn pass(&mut self, len: usize) -> &'r str
         requires { StandsForItself (special self.old.escape) self.old.rest.now len }
@@ -106,14 +106,8 @@ impl<'r> Cursor<'r> {
         ensures case { self.new.case ≡ self.old.case }
     {
         let text = self.rest;
-        if self.limit >= text.as_bytes().len() as u64 {
-            self.rest = &text[len..];
-            return &text[..len];
-        }
-        let (run, _) = split_chars(&text[..len], self.limit);
-        self.limit -= count_chars(run) as u64;
-        self.rest = &text[run.len()..];
-        run
+        self.rest = &text[len..];
+        &text[..len]
     }
 }
 

@@ -9,12 +9,12 @@ pub returns-clause-fits : goal.returns-clause-fits
 returns-clause-fits c =
     let ended : c.each.cursor.rest.now ≡ [] = nil_from_test _ _ c.is_empty.ensures c.each-test.false in
     let within : length c.args.out.now.bytes ≤ c.args.out.now.room = omega (arith, ap length c.bytes-before.ensures.value, c.bytes-before.ensures.fits) in
-    (λ e. fits_whole _ _ _ _ c.each.invariant.written (shown_empty _ _ _ _ ended) within, λ h. refl)
+    (λ e. fits_whole _ _ _ _ c.each.invariant.written (shown_empty _ _ _ ended) within, λ h. refl)
 
 pub returns-clause-ok : goal.returns-clause-ok
 returns-clause-ok c =
     let ended : c.each.cursor.rest.now ≡ [] = nil_from_test _ _ c.is_empty.ensures c.each-test.false in
-    written_whole _ _ _ _ c.each.invariant.written (shown_empty _ _ _ _ ended)
+    written_whole _ _ _ _ c.each.invariant.written (shown_empty _ _ _ ended)
 
 pub returns-in-Err-clause-utf8 : goal.returns-in-Err-clause-utf8
 returns-in-Err-clause-utf8 c =

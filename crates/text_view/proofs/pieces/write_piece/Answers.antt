@@ -12,4 +12,4 @@ returns-in-Some-clause-over c = overflows c.push_cased.result c.args.out.now _ _
 
 pub returns-in-None-clause-ok : goal.returns-in-None-clause-ok
 returns-in-None-clause-ok c =
-    writes_nothing _ _ _ (ap encode_utf8_all (sym c.in_default.ensures.value ∙ c.in-None.ensures.value.0)) (shown_empty _ _ _ _ refl)
+    writes_nothing _ _ _ (ap encode_utf8_all (sym c.in_default.ensures.value ∙ c.in-None.ensures.value.0)) (shown_empty _ _ _ refl)
