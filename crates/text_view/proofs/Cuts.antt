@@ -211,9 +211,6 @@ no_pair : (test : Bool) (value n : ℕ) → (pair_or test value).further ≤ 5 +
 no_pair true value n h k = absurd (omega arith)
 no_pair false value n h k = refl
 
-pair_is : (high : ℕ) (rest : List ℕ) → take_pair high rest ≡ pair_or (pair_test rest) (pair_value high (hex_value (hex_in (drop 1 rest))))
-pair_is high rest = refl
-
 short_rest : (rest : List ℕ) → length rest < 6 → length (drop 1 rest) < 5
 short_rest [] h = omega arith
 short_rest (c ∷ cs) h = omega arith

@@ -12,19 +12,24 @@ ghost use Rattle.sql_decimal.specs.Reading.{number_of, int_of};
 ghost use Rattle.text_view.specs.Trimmed.{trimmed};
 ghost use Rattle.text_view.specs.LikePattern.{Matches};
 ghost use Rattle.value_text.specs.Texts.{bool_text};
+ghost use Rattle.value_text.specs.Cuts.{cut_of};
 
+use crate::cut::Cut;
 use crate::numbers::{number, read_int};
-use crate::printed::{Printed, Room};
+use crate::printed::{Room, sub_moment, sub_number, trim_moment, trim_number};
+use crate::printed_reads;
 use sql_decimal::{Dec, Num};
 use sql_timestamp::Stamp;
 use std::cmp::Ordering;
 use std::marker::Model;
 use text_view::{Buf, Full, Pattern, Side, Text};
 
+/// A lent text, or what is printed and which of its characters are left. One tag tells the three, so that a text has 32 bytes.
 #[derive(Drop)]
 enum Kind<'r> {
     Lent(Text<'r>),
-    Printed(Printed),
+    Number(Cut, Dec),
+    Moment(Cut, Stamp),
 }
 
 /// A list of characters: a lent text, or what is printed of a truth value, a number or a timestamp.
@@ -54,12 +59,23 @@ impl<'r> ValueText<'r> {
         }
     }
 
+    /// What the cut leaves of a number's text.
     #[inline]
-    fn printed(text: Printed) -> ValueText<'r>
-        ensures { result ≡ text }
+    fn of_number(cut: Cut, dec: Dec) -> ValueText<'r>
+        ensures { result ≡ cut_of cut (chars (printed dec)) }
     {
         ValueText {
-            kind: Kind::Printed(text),
+            kind: Kind::Number(cut, dec),
+        }
+    }
+
+    /// What the cut leaves of a timestamp's text.
+    #[inline]
+    fn of_moment(cut: Cut, stamp: Stamp) -> ValueText<'r>
+        ensures { result ≡ cut_of cut (chars (printed_timestamp stamp)) }
+    {
+        ValueText {
+            kind: Kind::Moment(cut, stamp),
         }
     }
 
@@ -71,24 +87,25 @@ impl<'r> ValueText<'r> {
     }
 
     /// The digits of a whole number, behind `-` below zero.
+    #[tactic(auto, using(crate::proofs::IntTexts::printed_int))]
     pub fn of_int(int: i64) -> ValueText<'r>
         ensures { result ≡ chars (signed_decimal int) }
     {
-        ValueText::printed(Printed::of_int(int))
+        ValueText::of_dec(Dec::of_int(int))
     }
 
     /// What `Dec::print` gives: all the digits of the scale, and one at least before the point.
     pub fn of_dec(dec: Dec) -> ValueText<'r>
         ensures { result ≡ chars (printed dec) }
     {
-        ValueText::printed(Printed::of_dec(dec))
+        ValueText::of_number(Cut::whole(), dec)
     }
 
     /// What `Stamp::print` gives.
     pub fn of_stamp(stamp: Stamp) -> ValueText<'r>
         ensures { result ≡ chars (printed_timestamp stamp) }
     {
-        ValueText::printed(Printed::of_stamp(stamp))
+        ValueText::of_moment(Cut::whole(), stamp)
     }
 
     /// The same text again.
@@ -97,7 +114,8 @@ impl<'r> ValueText<'r> {
     {
         match &self.kind {
             Kind::Lent(text) => ValueText::lent(text.again()),
-            Kind::Printed(text) => ValueText::printed(text.again()),
+            Kind::Number(cut, dec) => ValueText::of_number(*cut, *dec),
+            Kind::Moment(cut, stamp) => ValueText::of_moment(*cut, *stamp),
         }
     }
 
@@ -108,9 +126,17 @@ impl<'r> ValueText<'r> {
     {
         match &self.kind {
             Kind::Lent(text) => return text.again(),
-            Kind::Printed(text) => return text.lend(room),
+            Kind::Number(cut, dec) => {
+                *room = dec.print();
+                return cut.of(room.as_str());
+            }
+            Kind::Moment(cut, stamp) => {
+                *room = stamp.print();
+                return cut.of(room.as_str());
+            }
         }
     }
+
     /// The bytes of the text in UTF-8, where it is lent and stands so in what was lent.
     #[inline]
     pub fn as_plain(&self) -> Option<&'r str>
@@ -118,7 +144,7 @@ impl<'r> ValueText<'r> {
     {
         match &self.kind {
             Kind::Lent(text) => text.as_plain(),
-            Kind::Printed(_) => None,
+            _ => None,
         }
     }
 
@@ -129,7 +155,7 @@ impl<'r> ValueText<'r> {
     {
         match &self.kind {
             Kind::Lent(text) => Some(text),
-            Kind::Printed(_) => None,
+            _ => None,
         }
     }
 
@@ -141,7 +167,7 @@ impl<'r> ValueText<'r> {
     {
         match &self.kind {
             Kind::Lent(text) => text.len_chars(),
-            Kind::Printed(text) => text.len_chars(),
+            _ => printed_reads::len_chars(self),
         }
     }
 
@@ -155,7 +181,7 @@ impl<'r> ValueText<'r> {
                 return left.compare(right);
             }
         }
-        compare_printed(self, other)
+        printed_reads::compare(self, other)
     }
 
     /// Whether the text has the characters of `other`.
@@ -165,7 +191,7 @@ impl<'r> ValueText<'r> {
     {
         match &self.kind {
             Kind::Lent(text) => text.equals(other),
-            Kind::Printed(text) => text.equals(other),
+            _ => printed_reads::equals(self, other),
         }
     }
 
@@ -177,7 +203,7 @@ impl<'r> ValueText<'r> {
     {
         match &self.kind {
             Kind::Lent(text) => text.eq_ignore_ascii_case(other),
-            Kind::Printed(text) => text.eq_ignore_ascii_case(other),
+            _ => printed_reads::eq_ignore_ascii_case(self, other),
         }
     }
 
@@ -188,7 +214,7 @@ impl<'r> ValueText<'r> {
     {
         match &self.kind {
             Kind::Lent(text) => pattern.matches(text),
-            Kind::Printed(text) => text.matches(pattern),
+            _ => printed_reads::matches(self, pattern),
         }
     }
 
@@ -199,7 +225,12 @@ impl<'r> ValueText<'r> {
     {
         match &self.kind {
             Kind::Lent(text) => ValueText::lent(text.sub(from, count)),
-            Kind::Printed(text) => ValueText::printed(text.sub(from, count)),
+            Kind::Number(cut, dec) => {
+                ValueText::of_number(sub_number(*cut, *dec, from, count), *dec)
+            }
+            Kind::Moment(cut, stamp) => {
+                ValueText::of_moment(sub_moment(*cut, *stamp, from, count), *stamp)
+            }
         }
     }
 
@@ -210,7 +241,12 @@ impl<'r> ValueText<'r> {
     {
         match &self.kind {
             Kind::Lent(text) => ValueText::lent(text.trim(side, set)),
-            Kind::Printed(text) => ValueText::printed(text.trim(side, set)),
+            Kind::Number(cut, dec) => {
+                ValueText::of_number(trim_number(*cut, *dec, side, set), *dec)
+            }
+            Kind::Moment(cut, stamp) => {
+                ValueText::of_moment(trim_moment(*cut, *stamp, side, set), *stamp)
+            }
         }
     }
 
@@ -221,7 +257,8 @@ impl<'r> ValueText<'r> {
     {
         match &self.kind {
             Kind::Lent(text) => ValueText::lent(text.upper()),
-            Kind::Printed(text) => ValueText::printed(text.upper()),
+            Kind::Number(cut, dec) => ValueText::of_number(cut.upper(), *dec),
+            Kind::Moment(cut, stamp) => ValueText::of_moment(cut.upper(), *stamp),
         }
     }
 
@@ -232,7 +269,8 @@ impl<'r> ValueText<'r> {
     {
         match &self.kind {
             Kind::Lent(text) => ValueText::lent(text.lower()),
-            Kind::Printed(text) => ValueText::printed(text.lower()),
+            Kind::Number(cut, dec) => ValueText::of_number(cut.lower(), *dec),
+            Kind::Moment(cut, stamp) => ValueText::of_moment(cut.lower(), *stamp),
         }
     }
 
@@ -243,7 +281,7 @@ impl<'r> ValueText<'r> {
     {
         match &self.kind {
             Kind::Lent(text) => number(text),
-            Kind::Printed(text) => text.number(),
+            _ => printed_reads::number(self),
         }
     }
 
@@ -254,7 +292,7 @@ impl<'r> ValueText<'r> {
     {
         match &self.kind {
             Kind::Lent(text) => read_int(text),
-            Kind::Printed(text) => text.read_int(),
+            _ => printed_reads::read_int(self),
         }
     }
 
@@ -265,7 +303,7 @@ impl<'r> ValueText<'r> {
     {
         match &self.kind {
             Kind::Lent(text) => Stamp::read(text),
-            Kind::Printed(text) => text.stamp(),
+            _ => printed_reads::stamp(self),
         }
     }
 
@@ -281,19 +319,7 @@ impl<'r> ValueText<'r> {
     {
         match &self.kind {
             Kind::Lent(text) => text.write_to(out),
-            Kind::Printed(text) => text.write_to(out),
+            _ => printed_reads::write_to(self, out),
         }
     }
-}
-
-/// The order where one of the two at least is printed.
-#[inline(never)]
-fn compare_printed(left: &ValueText<'_>, right: &ValueText<'_>) -> Ordering
-    ensures { result ≡ slice_cmp nat_cmp left.now right.now }
-{
-    let mut left_room = Room::new();
-    let mut right_room = Room::new();
-    let left = left.lend(&mut left_room);
-    let right = right.lend(&mut right_room);
-    left.compare(&right)
 }
