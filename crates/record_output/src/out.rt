@@ -228,6 +228,14 @@ impl Out {
         Ok(())
     }
 
+    /// Whether the record as it stands, closed and without its delimiter, is within the limit.
+    #[inline]
+    pub fn is_within(&self) -> bool
+        ensures { result ≡ is_within self.now }
+    {
+        self.len + closing_len(&self.output) <= self.longest
+    }
+
     /// The record with its delimiter. It stays as it was, so that further fields may follow.
     #[inline]
     pub fn end(&mut self) -> &[u8]

@@ -1,4 +1,4 @@
 mod Gives
-mod Walks
+pub mod Walks
 mod Stepping
 mod Read
