@@ -1,0 +1,4 @@
+pub mod Numbers
+pub mod OneValue
+pub mod Selecting
+pub mod Wholes

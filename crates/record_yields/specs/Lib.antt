@@ -1,0 +1,6 @@
+pub mod Adding
+pub mod Codes
+pub mod Names
+pub mod Projections
+pub mod Whole
+pub mod Yields
