@@ -1,0 +1,2 @@
+mod Delimiting
+mod Naming

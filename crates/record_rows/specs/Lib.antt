@@ -1,0 +1,4 @@
+pub mod Cells
+pub mod Formats
+pub mod Headers
+pub mod Rows
