@@ -1,8 +1,8 @@
 -- The line that is lent is the object's, and what is left behind it.
-use Rattle.std.proofs.Common.{◌≡◌, ℕ, ◌+◌, ◌-◌, ◌<◌, ◌≤◌, ◌==◌, true, false, List, length, take, drop, sym, ap, ◌∙◌, subst, inl, inr, arith, length-drop}
+use Rattle.std.proofs.Common.{◌≡◌, ℕ, zero, suc, ◌+◌, ◌-◌, ◌<◌, ◌≤◌, ◌==◌, Bool, true, false, List, [], ◌∷◌, length, take, drop, sym, ap, ◌∙◌, subst, inl, inr, arith, length-drop}
 use Rattle.std.proofs.lemmas.List.{length-take-le, take_all, take-take}
 use Rattle.std.proofs.lemmas.Bool.{cases_lt}
-use Rattle.std.specs.Prelude.{if◌then◌else◌}
+use Rattle.std.specs.Prelude.{if◌then◌else◌, bytes_eq}
 use Rattle.line_window.specs.declared.window.Body.{Body}
 use Rattle.line_window.specs.Starts.{is_start, before_delimiter, body}
 use Rattle.line_window.specs.Cuts.{cuts, cut_at, without_mark}
@@ -201,3 +201,22 @@ lent_is object v b sound holds near is_body short =
             whole = omega (arith, opened.0);
           }
     ]
+
+-- ---- how long it is
+
+taken_most : (n : ℕ) (xs : List ℕ) → length (take n xs) ≤ n
+taken_most zero xs = omega arith
+taken_most (suc n) [] = omega arith
+taken_most (suc n) (x ∷ xs) = omega (arith, taken_most n xs)
+
+unmarked_most : (xs : List ℕ) → length (without_mark xs) ≤ length xs
+unmarked_most xs =
+    let P : Bool → Type 0 = λ b. length (if b then drop 3 xs else xs) ≤ length xs in
+    elim (bytes_eq (take 3 xs) (0xef ∷ 0xbb ∷ 0xbf ∷ [])) as P [ true ↦ omega (arith, length-drop 3 xs) | false ↦ omega arith ]
+
+pub lent_most : (place len longest : ℕ) (xs bytes : List ℕ) → bytes ≡ (if place == 0 then without_mark (take len xs) else take len xs) → len ≤ longest → length bytes ≤ longest
+lent_most place len longest xs bytes is short =
+    let most = taken_most len xs in
+    let unmarked = unmarked_most (take len xs) in
+    let P : Bool → Type 0 = λ b. length (if b then without_mark (take len xs) else take len xs) ≤ longest in
+    subst (λ l. length l ≤ longest) (sym is) (elim (place == 0) as P [ true ↦ omega arith | false ↦ omega arith ])

@@ -13,6 +13,12 @@ pub record IsLent (longest : ℕ) (cut : Cut) (lent : List ℕ) (len : ℕ) : Ty
   pub bytes : lent ≡ content cut
   pub whole : len ≡ cut.whole
 
+-- what is lent of a line is no longer than the record limit
+abbrev pub IsWithin : ℕ → Line → Type 0
+IsWithin longest (At start bytes whole) = length bytes.now ≤ longest
+IsWithin longest (TooLong start) = Unit {0}
+IsWithin longest End = Unit {0}
+
 -- the answer shows this cut: `TooLong` exactly where its body passes the limit
 abbrev pub ShowsCut : ℕ → Cut → Line → Type 0
 ShowsCut longest cut (At start bytes whole) = (start ≡ cut.start) × IsLent longest cut bytes.now whole

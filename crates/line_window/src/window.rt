@@ -79,7 +79,7 @@ impl Window {
     ghost use Rattle.line_window.specs.Cuts.{cut_at};
     ghost use Rattle.line_window.specs.Delimiters.{is_delimiter, HasNone, IsFirstAt};
     ghost use Rattle.line_window.specs.Sliding.{Tells, Holds, IsSound, Took, IsOpened, IsSought, ahead};
-    ghost use Rattle.line_window.specs.Answers.{Turns, ShowsCut};
+    ghost use Rattle.line_window.specs.Answers.{IsWithin, Turns, ShowsCut};
     ghost use Rattle.line_window.specs.Ahead.{Looks, IsAhead, Passes};
     ghost use Rattle.line_window.specs.Steps.{Skips, Goes, Grows, IsNear, IsBody, IsSeen, IsScanned, Measures, Finds, Leaves, IsSomeLine};
     ghost use Rattle.line_window.specs.contracts.window.Window.{the_row};
@@ -133,6 +133,7 @@ impl Window {
     pub fn next<S: Store>(&mut self, store: &mut S) -> Result<Line<'_>, Failed>
         requires { IsOpen (S.current store.old) self.old.size }
         ensures* after { sem 𝓛 (Rests the_row self.entry (λ new. Turns (S.current store.old) self.old new result (S.taken store.old) (S.taken store.new))) }
+        ensures within { IfOk result (IsWithin self.old.longest) }
         ensures cause { OnErr result (self.old.failed ≡ false → Rose (S.faults store.old) (S.faults store.new)) }
         ensures faults { S.faults store.old ≤ S.faults store.new }
         ensures held { S.held store.new ≡ S.held store.old }
@@ -456,6 +457,7 @@ impl Window {
         ensures* after { sem 𝓛 (Rests the_row self.entry (λ new. Leaves self.old new)) }
         ensures line { (object : List ℕ) → Holds object self.old → ShowsCut self.old.longest (cut_at self.old.delimiter object self.old.place) result }
         ensures some { IsSomeLine result }
+        ensures within { IsWithin self.old.longest result }
     {
         let Body { len, behind } = body;
         let start = self.base + self.from as u64;

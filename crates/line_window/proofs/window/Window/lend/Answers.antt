@@ -7,7 +7,7 @@ use Rattle.line_window.specs.Sliding.{ahead}
 use Rattle.line_window.specs.Answers.{IsLent}
 use Rattle.line_window.proofs.KeptLaws.{ahead_len}
 use Rattle.line_window.proofs.InsideLaws.{moves_to, line_slice}
-use Rattle.line_window.proofs.LineLaws.{fits, leaves, too_long, lent_is}
+use Rattle.line_window.proofs.LineLaws.{fits, leaves, too_long, lent_is, lent_most}
 use Rattle.line_window.proofs.window.Window.lend.Goals as goal
 
 pub returns-then-len-self : goal.returns-then-len-self
@@ -32,6 +32,7 @@ returns-then-len-self c =
         after = tt;
         line = λ object h. (refl, too_long object (view_of w) b i.sound h near is_body c.if-len-self.true);
         some = tt;
+        within = tt;
       },
     )
 
@@ -64,5 +65,6 @@ returns c =
               (lent_is object (view_of w) b i.sound h near is_body c.if-len-self.false),
         );
         some = tt;
+        within = lent_most (w.base + w.from) b.len w.longest (ahead (view_of w)) c.content-bytes.result.now bytes (omega (arith, c.if-len-self.false));
       },
     )

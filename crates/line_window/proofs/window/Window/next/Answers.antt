@@ -12,6 +12,7 @@ returns-in-Some g c = (
   ),
   record {
     after = tt;
+    within = rw (← c.find_line.ensures.window.rules.longest) c.lend.ensures.within;
     cause = tt;
     faults = c.find_line.ensures.faults;
     held = c.find_line.ensures.held;
