@@ -1,0 +1,10 @@
+mod BoundLaws
+mod EarlyLaws
+mod Framing
+mod LineLaws
+mod LineStreams
+mod RangeLaws
+mod SelectedLaws
+mod StreamLaws
+mod TilingLaws
+mod WindowSteps

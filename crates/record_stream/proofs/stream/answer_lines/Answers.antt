@@ -1,0 +1,141 @@
+use Rattle.std.proofs.Common.{◌-◌, refl, sym, ap, ◌∙◌, subst, arith}
+use Rattle.std.specs.Prelude.{is_err}
+use Rattle.line_window.specs.Sliding.{left}
+use Rattle.select_reply.specs.Begun.{Begun, is_full}
+use Rattle.record_stream.specs.LineTurns.{asking, turn_of}
+use Rattle.record_stream.specs.Streaming.{Streamed}
+use Rattle.record_stream.proofs.StreamLaws.{stream_begins, stream_stays, open_after, free_unanswered}
+use Rattle.record_stream.proofs.LineStreams.{lines_front, line_on, line_ended, line_front}
+use Rattle.record_stream.proofs.BoundLaws.{wrote_early}
+use Rattle.record_stream.proofs.WindowSteps.{open_stays, rules_stay, same_rules, took_none, took_more, took_at_most, given, not_given, read_near}
+use Rattle.record_stream.proofs.stream.answer_lines.Goals as goal
+
+pub turns-init : goal.turns-init
+turns-init g c =
+    let window = c.args.window.now in
+    let reply = c.args.reply.now in
+    record {
+      open_ = c.requires.object;
+      sound = c.requires.sound;
+      works = c.requires.works;
+      free = c.requires.free;
+      rules = same_rules window;
+      forward = omega arith;
+      near = omega arith;
+      taken = took_none _ _ (omega arith);
+      held = refl;
+      current = refl;
+      absent = refl;
+      store_faults = omega arith;
+      out_faults = omega arith;
+      rest = refl;
+      same = refl;
+      told = λ object tells holds.
+          let a = asking g.K.FrameSink.wrap reply.progress reply.left (g.Y.LineYields.lines c.args.lines.now) window.longest in
+          let written = g.K.FrameSink.written c.args.out.now in
+          subst (λ (b : Begun). Streamed a object (left object window) window b written written) (sym c.requires.fresh)
+          (stream_begins a object window written (free_unanswered reply.left c.requires.free) holds);
+    }
+
+pub returns-in-Err-clause-reply : goal.returns-in-Err-clause-reply
+returns-in-Err-clause-reply g c = λ object tells holds.
+    let law = c.replies_grow_by_records.ensures in
+    let window = c.args.window.now in
+    let reply = c.args.reply.now in
+    lines_front law.on law.out law.stop law.begins g.K.FrameSink.wrap reply.progress reply.left (g.Y.LineYields.lines c.args.lines.now) window.longest object window
+    c.requires.short c.requires.sound.limit c.requires.within c.requires.small holds
+    c.turns.window c.turns.reply _ _ (c.turns.invariant.told object tells holds)
+
+pub returns-in-Err-clause-early : goal.returns-in-Err-clause-early
+returns-in-Err-clause-early g c = λ object spent few tells holds is.
+    let law = c.replies_grow_by_records.ensures in
+    let i = c.turns.invariant in
+    let t = c.next.follows.holds-at-none in
+    let s = i.told object tells holds in
+    let w = c.next.follows.lender-at-none in
+    let window = c.args.window.now in
+    let reply = c.args.reply.now in
+    let lines = g.Y.LineYields.lines c.args.lines.now in
+    let still = not_given _ c.turns.window w c.next.result c.in-Err.field-0 _ _ object t c.in-Err.is _ i.current tells s.holds in
+    let read = took_at_most _ _ _ (took_more _ _ (w.upto - window.upto) _ _ _ (omega (arith, t.forward, i.forward)) i.taken t.taken) in
+    let rules = rules_stay _ _ _ i.rules t.rules in
+    wrote_early law.begins law.extends g.K.FrameSink.wrap reply.progress reply.left lines window.longest _ object (left object window) w c.turns.reply _ _
+    (stream_stays (asking g.K.FrameSink.wrap reply.progress reply.left lines window.longest) object (left object window) c.turns.window w c.turns.reply _ _ s still.0 still.1)
+    (read_near w window.longest _ spent t.sound rules.longest few (omega (arith, read, c.requires.near, t.forward, i.forward)))
+
+pub turns-preserved : goal.turns-preserved
+turns-preserved g c =
+    let law = c.replies_grow_by_records.ensures in
+    let i = c.turns.invariant in
+    let t = c.next.follows.holds-at-none in
+    let w = c.next.follows.lender-at-none in
+    let window = c.args.window.now in
+    let reply = c.args.reply.now in
+    let lines = g.Y.LineYields.lines c.args.lines.now in
+    let now = g.Y.LineYields.lines c.turns.lines in
+    let after = c.in-Ok-None.ensures.after c.in-Ok-None.field-0-is in
+    let goes = sym c.in-Ok-None.ensures.outcome ∙ c.in-Ok-None.field-0-is in
+    record {
+      open_ = open_stays _ _ _ _ c.next.ensures.current t.rules.size i.open_;
+      sound = t.sound;
+      works = t.failed ∙ ap is_err c.in-Ok.is;
+      free = ap (λ (b : Begun). is_full b.left) after ∙ open_after c.turns.reply (turn_of now c.in-Ok.line) i.free goes;
+      rules = rules_stay _ _ _ i.rules t.rules;
+      forward = omega (arith, t.forward, i.forward);
+      near = omega (arith, t.near, i.near, i.rules.stop, i.rules.longest);
+      taken = took_more _ _ _ _ _ _ (omega (arith, t.forward, i.forward)) i.taken t.taken;
+      held = c.next.ensures.held ∙ i.held;
+      current = c.next.ensures.current ∙ i.current;
+      absent = c.next.ensures.absent ∙ i.absent;
+      store_faults = omega (arith, i.store_faults, c.next.ensures.faults);
+      out_faults = omega (arith, i.out_faults, c.in-Ok-None.ensures.faults.kept);
+      rest = c.in-Ok-None.ensures.rest ∙ i.rest;
+      same = c.in-Ok-None.ensures.same ∙ i.same;
+      told = λ object tells holds.
+          let s = i.told object tells holds in
+          let next = given _ c.turns.window w c.next.result c.in-Ok.line _ _ object t c.in-Ok.is _ i.current tells s.holds in
+          subst (λ (b : Begun). Streamed (asking g.K.FrameSink.wrap reply.progress reply.left lines window.longest) object (left object window) w b
+          (g.K.FrameSink.written c.args.out.now) (g.K.FrameSink.written c.answer.new.out)) (sym after)
+          (line_on law.on law.out law.stop law.begins g.K.FrameSink.wrap reply.progress reply.left lines window.longest object window
+          c.requires.short c.requires.sound.limit c.requires.within c.requires.small holds
+          c.turns.window w c.turns.reply c.in-Ok.line now _ _ _ s i.same i.rules.longest next goes c.in-Ok-None.ensures.bytes);
+    }
+
+pub returns-in-Ok-Some-clause-reply : goal.returns-in-Ok-Some-clause-reply
+returns-in-Ok-Some-clause-reply g c = λ object tells holds.
+    let law = c.replies_grow_by_records.ensures in
+    let i = c.turns.invariant in
+    let t = c.next.follows.holds-at-none in
+    let w = c.next.follows.lender-at-none in
+    let window = c.args.window.now in
+    let reply = c.args.reply.now in
+    let s = i.told object tells holds in
+    let next = given _ c.turns.window w c.next.result c.in-Ok.line _ _ object t c.in-Ok.is _ i.current tells s.holds in
+    line_ended law.on law.out law.stop law.begins g.K.FrameSink.wrap reply.progress reply.left (g.Y.LineYields.lines c.args.lines.now) window.longest object window
+    c.requires.short c.requires.sound.limit c.requires.within c.requires.small holds
+    c.turns.window w c.turns.reply c.in-Ok.line (g.Y.LineYields.lines c.turns.lines) _ _ _ c.in-Ok-Some.outcome s i.same i.rules.longest next.1
+    (sym c.in-Ok-Some.ensures.outcome ∙ c.in-Ok-Some.field-0-is) c.in-Ok-Some.ensures.bytes
+
+pub returns-in-Err-answer-clause-reply : goal.returns-in-Err-answer-clause-reply
+returns-in-Err-answer-clause-reply g c = λ object tells holds.
+    let law = c.replies_grow_by_records.ensures in
+    let i = c.turns.invariant in
+    let t = c.next.follows.holds-at-none in
+    let w = c.next.follows.lender-at-none in
+    let window = c.args.window.now in
+    let reply = c.args.reply.now in
+    let s = i.told object tells holds in
+    let next = given _ c.turns.window w c.next.result c.in-Ok.line _ _ object t c.in-Ok.is _ i.current tells s.holds in
+    line_front law.on law.out law.stop law.begins g.K.FrameSink.wrap reply.progress reply.left (g.Y.LineYields.lines c.args.lines.now) window.longest object window
+    c.requires.short c.requires.sound.limit c.requires.within c.requires.small holds
+    c.turns.window w c.turns.reply c.in-Ok.line (g.Y.LineYields.lines c.turns.lines) _ _ _ s i.same i.rules.longest next.1
+    c.in-Err-answer.ensures.bytes
+
+pub returns-in-Err-clause-rules : goal.returns-in-Err-clause-rules
+returns-in-Err-clause-rules g c = rules_stay _ _ _ c.turns.invariant.rules c.next.follows.holds-at-none.rules
+
+pub returns-in-Ok-Some-clause-rules : goal.returns-in-Ok-Some-clause-rules
+returns-in-Ok-Some-clause-rules g c = rules_stay _ _ _ c.turns.invariant.rules c.next.follows.holds-at-none.rules
+
+pub returns-in-Err-answer-clause-rules : goal.returns-in-Err-answer-clause-rules
+returns-in-Err-answer-clause-rules g c = rules_stay _ _ _ c.turns.invariant.rules c.next.follows.holds-at-none.rules

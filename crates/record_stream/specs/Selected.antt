@@ -1,0 +1,34 @@
+-- Which records of an object a range selects: those whose first byte lies in the range.
+use Rattle.std.specs.Prelude.{ℕ, ◌+◌, ◌*◌, ◌-◌, ◌&&◌, Bool, false, nat_le, List, length, filter, Option, None, Some}
+use Rattle.line_window.specs.Cuts.{cuts}
+use Rattle.select_reply.specs.Pieces.{piece}
+use Rattle.select_reply.specs.Yields.{Yielded}
+use Rattle.record_stream.specs.Lines.{Lines, yields_of}
+
+-- the place lies in the range, from its first place to its last one; a range without a place has none
+abbrev pub lies_in : Option (ℕ × ℕ) → ℕ → Bool
+lies_in None place = false
+lies_in (Some range) place = nat_le range.0 place && nat_le place range.1
+
+-- the records of an object whose lines end with the delimiter, under a record limit
+abbrev pub all_yields : Lines → ℕ → List ℕ → List ℕ → List Yielded
+all_yields lines longest delimiter object = yields_of lines longest (cuts delimiter object 0 (length object))
+
+-- those that start in the range
+unfoldable pub yields : Lines → ℕ → List ℕ → List ℕ → Option (ℕ × ℕ) → List Yielded
+yields lines longest delimiter object range = filter (λ y. lies_in range y.start) (all_yields lines longest delimiter object)
+
+-- where the range begins; 0 where it has no place
+abbrev pub first_of : Option (ℕ × ℕ) → ℕ
+first_of None = 0
+first_of (Some range) = range.0
+
+-- the most bytes that answering a range reads of the object: those of the range, the record limit and two pieces
+abbrev pub most_read : ℕ → Option (ℕ × ℕ) → ℕ
+most_read longest None = 0
+most_read longest (Some range) = range.1 + 1 - range.0 + (longest + 2 * piece)
+
+-- the most bytes of the object that are taken, a header's among them: those of the range, the record limit twice and four pieces
+abbrev pub most_taken : ℕ → Option (ℕ × ℕ) → ℕ
+most_taken longest None = 0
+most_taken longest (Some range) = range.1 + 1 - range.0 + (2 * longest + 4 * piece)

@@ -1,0 +1,21 @@
+//! Laws of tilings, and of records that nothing was read of.
+ghost use Rattle.record_stream.specs.Early.{UnreadAreLate};
+ghost use Rattle.record_stream.specs.Tiling.{EachTilingJoins, EachTilingMakesTheWhole};
+
+use line_window::adjacent_ranges_append;
+use select_reply::tiles_make_the_whole;
+
+/// The records of the tiles of an object, joined in order, are those of the whole object, each in one tile. Where none of them has a
+/// code, the output that the replies over the tiles carry, joined, is that of the reply over the whole, and their counts sum to its.
+pub fn tiles_have_each_record_once()
+    ensures join { EachTilingJoins }
+    ensures whole { EachTilingMakesTheWhole }
+{
+    adjacent_ranges_append();
+    tiles_make_the_whole();
+}
+
+/// Where nothing was read of a range, none of its records is early.
+pub fn unread_records_are_late()
+    ensures { UnreadAreLate }
+{}

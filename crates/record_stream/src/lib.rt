@@ -1,0 +1,13 @@
+//! The reply over the lines of a window, whatever each line yields: the records that start in a range are answered, up to the first
+//! code or the limit.
+#![tactic(auto)]
+
+mod laws;
+mod lines;
+mod outcome;
+mod stream;
+
+pub use laws::{tiles_have_each_record_once, unread_records_are_late};
+pub use lines::{LineYields, answer_yield};
+pub use outcome::StreamError;
+pub use stream::answer_range;
