@@ -1,2 +1,3 @@
 mod Delimiting
 mod Naming
+mod Spelling

@@ -2,3 +2,4 @@ pub mod Cells
 pub mod Formats
 pub mod Headers
 pub mod Rows
+pub mod Spelled
