@@ -1,0 +1,5 @@
+mod Adding
+mod ExactSums
+mod OfRows
+mod OfValues
+mod Written

@@ -1,0 +1,9 @@
+pub mod Exact
+pub mod HeldValues
+pub mod Keeping
+pub mod Overall
+pub mod Partials
+pub mod Rooms
+pub mod Slots
+pub mod Stepped
+pub mod Sums
