@@ -1,12 +1,13 @@
 //! A query of aggregates, and the records that it is asked of.
-ghost use Rattle.std.specs.Prelude.{[], ◌∷◌};
-ghost use Rattle.sql_value.specs.declared.value.Value.TheVariants.{Node};
+ghost use Rattle.std.specs.Prelude.{[], ◌∷◌, IfOk};
+ghost use Rattle.sql_value.specs.declared.value.Value.{Value};
+ghost use Rattle.sql_lawful.specs.Lawful.{IsLawful};
 
 use crate::answers::{add, answer};
 use case_tables::Row;
 use json_text::{JsonNode, check};
 use scan_plan::{BoundAgg, Columns, Plan, PlanItems, bind};
-use select_sql::parse;
+use select_sql::{Query, parse};
 use sql_eval::Row as Cells;
 use sql_totals::Totals;
 use sql_value::Value;
@@ -19,10 +20,8 @@ pub(crate) fn tell_fields(alloc: Global, row: &Row) -> Result<String, Fail> {
     let plan = plan_of(alloc, row.text(0)?, &Columns::Positions)?;
     let aggs = aggregates(plan.get())?;
     let mut totals = Totals::make(alloc, aggs)?;
-    for place in 1..row.count() {
-        let field = [row.text(place)?];
-        let fields: &[&str] = &field;
-        if let Some(told) = add(alloc, aggs, &fields, place, &mut totals)? {
+    for number in 1..row.count() {
+        if let Some(told) = add_field(alloc, aggs, row.text(number)?, number, &mut totals)? {
             return Ok(told);
         }
     }
@@ -34,15 +33,37 @@ pub(crate) fn tell_json(alloc: Global, row: &Row) -> Result<String, Fail> {
     let plan = plan_of(alloc, row.text(0)?, &Columns::Json)?;
     let aggs = aggregates(plan.get())?;
     let mut totals = Totals::make(alloc, aggs)?;
-    for place in 1..row.count() {
-        let Ok(node) = check(row.bytes(place)?) else {
-            return Err(Fail::new("no JSON"));
-        };
-        if let Some(told) = add(alloc, aggs, &Record { node }, place, &mut totals)? {
+    for number in 1..row.count() {
+        if let Some(told) = add_json(alloc, aggs, row.bytes(number)?, number, &mut totals)? {
             return Ok(told);
         }
     }
     answer(alloc, &totals)
+}
+
+fn add_field(
+    alloc: Global,
+    aggs: &Items<BoundAgg>,
+    field: &str,
+    number: usize,
+    totals: &mut Totals,
+) -> Result<Option<String>, Fail> {
+    let mut fields = Vec::new(alloc);
+    fields.push(field)?;
+    add(alloc, aggs, &fields.as_slice(), number, totals)
+}
+
+fn add_json(
+    alloc: Global,
+    aggs: &Items<BoundAgg>,
+    bytes: &[u8],
+    number: usize,
+    totals: &mut Totals,
+) -> Result<Option<String>, Fail> {
+    let Ok(node) = check(bytes) else {
+        return Err(Fail::new("no JSON"));
+    };
+    add(alloc, aggs, &Record { node }, number, totals)
 }
 
 /// A record of JSON, whose one cell is the value itself.
@@ -52,12 +73,13 @@ struct Record<'r> {
 }
 
 impl<'r> Cells for Record<'r> {
-    ghost cells = { λ r. Node r.node ∷ [] };
+    ghost cells = { λ r. Value.Node r.node ∷ [] };
 
     fn width(&self) -> usize {
         1
     }
 
+    #[tactic(auto, using(crate::proofs::Cells::one_cell))]
     fn cell(&self, i: usize) -> Value<'_> {
         if i == 0 {
             return Value::Node(self.node.again());
@@ -70,12 +92,20 @@ impl<'r> Cells for Record<'r> {
     }
 }
 
+/// The query that a text spells.
+fn query_of(alloc: Global, text: &str) -> Result<Boxed<Query>, Fail>
+    ensures { IfOk result IsLawful }
+{
+    match parse(alloc, text) {
+        Ok(query) => Ok(Boxed::new(alloc, query)?),
+        Err(_) => Err(Fail::new("no query")),
+    }
+}
+
 /// The plan of a query.
 fn plan_of(alloc: Global, text: &str, columns: &Columns) -> Result<Boxed<Plan>, Fail> {
-    let Ok(query) = parse(alloc, text) else {
-        return Err(Fail::new("no query"));
-    };
-    match bind(alloc, &query, columns) {
+    let query = query_of(alloc, text)?;
+    match bind(alloc, query.get(), columns) {
         Ok(plan) => Ok(Boxed::new(alloc, plan)?),
         Err(_) => Err(Fail::new("no plan")),
     }
