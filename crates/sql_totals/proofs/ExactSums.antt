@@ -1,5 +1,5 @@
 -- `+` in order gives the sum of the fractions.
-use Rattle.std.proofs.Common.{◌≡◌, ℕ, zero, suc, ◌+◌, ◌-◌, ◌^◌, ◌≤◌, max, ℤ, pos, ◌+ℤ◌, ◌*ℤ◌, Bool, true, false, ◌&&◌, cond, List, [], ◌∷◌, ◌++◌, length, refl, sym, ◌∙◌, ap, arith}
+use Rattle.std.proofs.Common.{◌≡◌, ℕ, zero, suc, ◌+◌, ◌-◌, ◌^◌, ◌≤◌, max, ℤ, pos, ◌+ℤ◌, ◌*ℤ◌, Bool, true, false, cond, ◌&&◌, List, [], ◌∷◌, ◌++◌, length, append-nil, append_assoc, refl, sym, ◌∙◌, ap, arith}
 use Rattle.std.proofs.lemmas.Int.{ints}
 use Rattle.std.proofs.lemmas.Nat.{pow-add}
 use Rattle.std.proofs.Math.IntN.{*ℤ_comm, zero-*ℤ, suc_ℤ-*ℤ, *ℤ-one, +ℤ_idr, +ℤ_assoc}
@@ -26,7 +26,8 @@ use Rattle.sql_totals.specs.Sums.{operand_value}
 use Rattle.sql_totals.specs.Overall.{added_to_one, values, sum_on, sum_of}
 use Rattle.sql_totals.specs.Exact.{operand_number, numbers, scale_of, largest_scale, coefficients_at, is_int, are_ints, sum_value, exact_sum}
 use Rattle.sql_totals.specs.Partials.{Partial, Summed, Averaged, start}
-use Rattle.sql_totals.specs.Stepped.{made, refusing}
+use Rattle.sql_totals.specs.Stepped.{made, refusing, is_there}
+use Rattle.sql_totals.specs.Merging.{merged_sums}
 use Rattle.sql_totals.proofs.OfValues.{AllThere, is_judged, operand_judged, all_there, of_values}
 
 -- ---- scaling
@@ -48,17 +49,21 @@ aligned_twice c d s t h k =
 
 -- ---- one addition
 
+abbrev decimals_added : Decimal → Decimal → Decimal
+decimals_added x y = decimal_of (aligned x (common_scale x y) +ℤ aligned y (common_scale x y)) (common_scale x y)
+
 -- m is the sum of a and n
 record Joins (a n m : Num) : Type 0 where
   scale : scale_of m ≡ max (scale_of a) (scale_of n)
   coefficient : (t : ℕ) → scale_of m ≤ t → aligned (fraction_of m) t ≡ aligned (fraction_of a) t +ℤ aligned (fraction_of n) t
   ints : is_int m ≡ (is_int a && is_int n)
 
--- a result is the sum of two numbers
-record Together (a n : Num) (w : Value) : Type 0 where
-  total : Num
-  value : number_value total ≡ w
-  joins : Joins a n total
+-- the sum of two numbers, without bounds
+abbrev pub plus : Num → Num → Num
+plus (number.Int a) (number.Int b) = number.Int (a +ℤ b)
+plus (number.Int a) (number.Dec b) = number.Dec (decimals_added (whole a) b)
+plus (number.Dec a) (number.Int b) = number.Dec (decimals_added a (whole b))
+plus (number.Dec a) (number.Dec b) = number.Dec (decimals_added a b)
 
 decimals_join : (x y : Decimal) (t : ℕ) → common_scale x y ≤ t
     → aligned (decimal_of (aligned x (common_scale x y) +ℤ aligned y (common_scale x y)) (common_scale x y)) t ≡ aligned x t +ℤ aligned y t
@@ -83,35 +88,24 @@ decimal_told false q d w e = absurd (cc)
 ints_join : (a b : ℤ) (t : ℕ) → aligned (whole (a +ℤ b)) t ≡ aligned (whole a) t +ℤ aligned (whole b) t
 ints_join a b t = sum_scaled a b (10 ^ (t - 0))
 
-sum_told : (x y : Decimal) (w : Value) → decimal_outcome (decimal_result Add x y) ≡ Ok w
-    → Dec (decimal_of (aligned x (common_scale x y) +ℤ aligned y (common_scale x y)) (common_scale x y)) ≡ w
+sum_told : (x y : Decimal) (w : Value) → decimal_outcome (decimal_result Add x y) ≡ Ok w → Dec (decimals_added x y) ≡ w
 unfolding decimal_result sum
 sum_told x y w e =
     let s : ℕ = common_scale x y in
-    decimal_told (are_aligned x y) (is_decimal (aligned x s +ℤ aligned y s) s) (decimal_of (aligned x s +ℤ aligned y s) s) w e
+    decimal_told (are_aligned x y) (is_decimal (aligned x s +ℤ aligned y s) s) (decimals_added x y) w e
 
-decimal_summed : (a n : Num) (w : Value) → (is_int a && is_int n) ≡ false
-    → decimal_outcome (decimal_result Add (fraction_of a) (fraction_of n)) ≡ Ok w → Together a n w
-decimal_summed a n w i e =
-    let x : Decimal = fraction_of a in
-    let y : Decimal = fraction_of n in
-    record {
-      total = number.Dec (decimal_of (aligned x (common_scale x y) +ℤ aligned y (common_scale x y)) (common_scale x y));
-      value = sum_told x y w e;
-      joins = record { scale = refl; coefficient = decimals_join x y; ints = sym i };
-    }
+plus_joins : (a n : Num) → Joins a n (plus a n)
+plus_joins (number.Int a) (number.Int b) = record { scale = refl; coefficient = λ t h. ints_join a b t; ints = refl }
+plus_joins (number.Int a) (number.Dec b) = record { scale = refl; coefficient = decimals_join (whole a) b; ints = refl }
+plus_joins (number.Dec a) (number.Int b) = record { scale = refl; coefficient = decimals_join a (whole b); ints = refl }
+plus_joins (number.Dec a) (number.Dec b) = record { scale = refl; coefficient = decimals_join a b; ints = refl }
 
-summed : (a n : Num) (w : Value) → number_result Add a n ≡ Ok w → Together a n w
+pub plus_told : (a n : Num) (w : Value) → number_result Add a n ≡ Ok w → number_value (plus a n) ≡ w
 unfolding number_result int_result
-summed (number.Int a) (number.Int b) w e =
-    record {
-      total = number.Int (a +ℤ b);
-      value = int_told (is_64_bit (a +ℤ b)) (a +ℤ b) w e;
-      joins = record { scale = refl; coefficient = λ t h. ints_join a b t; ints = refl };
-    }
-summed (number.Int a) (number.Dec d) w e = decimal_summed (number.Int a) (number.Dec d) w refl e
-summed (number.Dec d) (number.Int b) w e = decimal_summed (number.Dec d) (number.Int b) w refl e
-summed (number.Dec c) (number.Dec d) w e = decimal_summed (number.Dec c) (number.Dec d) w refl e
+plus_told (number.Int a) (number.Int b) w e = int_told (is_64_bit (a +ℤ b)) (a +ℤ b) w e
+plus_told (number.Int a) (number.Dec b) w e = sum_told (whole a) b w e
+plus_told (number.Dec a) (number.Int b) w e = sum_told a (whole b) w e
+plus_told (number.Dec a) (number.Dec b) w e = sum_told a b w e
 
 -- ---- a list
 
@@ -119,26 +113,60 @@ and_assoc : (a b c : Bool) → ((a && b) && c) ≡ (a && (b && c))
 and_assoc true b c = refl
 and_assoc false b c = refl
 
+-- two lists of numbers with the same sum
+record SameSum (xs ys : List Num) : Type 0 where
+  scale : largest_scale xs ≡ largest_scale ys
+  coefficients : (t : ℕ) → largest_scale xs ≤ t → coefficients_at t xs ≡ coefficients_at t ys
+  ints : are_ints xs ≡ are_ints ys
+
 -- two numbers may be told by their sum
-joined : (a n m : Num) (ns : List Num) → Joins a n m → exact_sum (m ∷ ns) ≡ exact_sum (a ∷ n ∷ ns)
-joined a n m ns j =
-    let few : ℕ = largest_scale (m ∷ ns) in
-    let within : scale_of m ≤ few = omega arith in
-    let scales : few ≡ largest_scale (a ∷ n ∷ ns) = omega (arith, j.scale) in
-    let whole_ones : are_ints (m ∷ ns) ≡ are_ints (a ∷ n ∷ ns) = ap (λ b. b && are_ints ns) j.ints
-    ∙ and_assoc (is_int a) (is_int n) (are_ints ns) in
-    let coefficients : coefficients_at few (m ∷ ns) ≡ coefficients_at few (a ∷ n ∷ ns) =
-    ap (λ c. c +ℤ coefficients_at few ns) (j.coefficient few within)
-    ∙ +ℤ_assoc (aligned (fraction_of a) few) (aligned (fraction_of n) few) (coefficients_at few ns) in
-    ap (λ b. sum_value b (coefficients_at few (m ∷ ns)) few) whole_ones
-    ∙ ap (λ c. sum_value (are_ints (a ∷ n ∷ ns)) c few) coefficients
-    ∙ ap (λ s. sum_value (are_ints (a ∷ n ∷ ns)) (coefficients_at s (a ∷ n ∷ ns)) s) scales
+two_as_one : (a n : Num) (ns : List Num) → SameSum (plus a n ∷ ns) (a ∷ n ∷ ns)
+two_as_one a n ns =
+    let j : Joins a n (plus a n) = plus_joins a n in
+    let scales : largest_scale (plus a n ∷ ns) ≡ largest_scale (a ∷ n ∷ ns) = omega (arith, j.scale) in
+    record {
+      scale = scales;
+      coefficients = λ t h.
+      let within : scale_of (plus a n) ≤ t = omega (arith, h) in
+      ap (λ c. c +ℤ coefficients_at t ns) (j.coefficient t within)
+      ∙ +ℤ_assoc (aligned (fraction_of a) t) (aligned (fraction_of n) t) (coefficients_at t ns);
+      ints = ap (λ b. b && are_ints ns) j.ints ∙ and_assoc (is_int a) (is_int n) (are_ints ns);
+    }
+
+same_behind : (a : Num) (xs ys : List Num) → SameSum xs ys → SameSum (a ∷ xs) (a ∷ ys)
+same_behind a xs ys s =
+    record {
+      scale = ap (λ k. max (scale_of a) k) s.scale;
+      coefficients = λ t h.
+      let within : largest_scale xs ≤ t = omega (arith, h) in
+      ap (λ c. aligned (fraction_of a) t +ℤ c) (s.coefficients t within);
+      ints = ap (λ b. is_int a && b) s.ints;
+    }
+
+same_trans : (xs ys zs : List Num) → SameSum xs ys → SameSum ys zs → SameSum xs zs
+same_trans xs ys zs s r =
+    record {
+      scale = s.scale ∙ r.scale;
+      coefficients = λ t h. let within : largest_scale ys ≤ t = omega (arith, h, s.scale) in s.coefficients t h ∙ r.coefficients t within;
+      ints = s.ints ∙ r.ints;
+    }
+
+same_exact : (x y : Num) (xs ys : List Num) → SameSum (x ∷ xs) (y ∷ ys) → exact_sum (x ∷ xs) ≡ exact_sum (y ∷ ys)
+same_exact x y xs ys s =
+    let few : ℕ = largest_scale (x ∷ xs) in
+    let within : largest_scale (x ∷ xs) ≤ few = omega arith in
+    ap (λ b. sum_value b (coefficients_at few (x ∷ xs)) few) s.ints
+    ∙ ap (λ c. sum_value (are_ints (y ∷ ys)) c few) (s.coefficients few within)
+    ∙ ap (λ k. sum_value (are_ints (y ∷ ys)) (coefficients_at k (y ∷ ys)) k) s.scale
+
+joined : (a n : Num) (ns : List Num) → exact_sum (plus a n ∷ ns) ≡ exact_sum (a ∷ n ∷ ns)
+joined a n ns = same_exact (plus a n) a ns (n ∷ ns) (two_as_one a n ns)
 
 times_one : (c : ℤ) → c *ℤ pos 1 ≡ c
 unfolding lib.IntN.one
 times_one c = *ℤ-one c
 
-alone : (n : Num) → exact_sum (n ∷ []) ≡ number_value n
+pub alone : (n : Num) → exact_sum (n ∷ []) ≡ number_value n
 alone (number.Int n) = ap Int (+ℤ_idr (n *ℤ pos 1) ∙ times_one n)
 alone (number.Dec d) =
     let s : max d.scale 0 ≡ d.scale = omega arith in
@@ -147,7 +175,7 @@ alone (number.Dec d) =
     ∙ ap (λ k. Dec (decimal_of (d.coefficient *ℤ pos (10 ^ k) +ℤ pos 0) d.scale)) none
     ∙ ap (λ c. Dec (decimal_of c d.scale)) (+ℤ_idr (d.coefficient *ℤ pos 1) ∙ times_one d.coefficient)
 
-number_judged : (a : Num) → number_operand (number_value a) ≡ Ok (Some a)
+pub number_judged : (a : Num) → number_operand (number_value a) ≡ Ok (Some a)
 unfolding number_operand
 number_judged (number.Int n) = refl
 number_judged (number.Dec d) = refl
@@ -159,16 +187,11 @@ exact_on (v ∷ vs) a s there e =
     by_operand (number_operand v) (operand_judged v there.0) (λ m. exact_on vs m s there.1)
     (ap (λ o. and_then (both o (number_operand v) (number_result Add)) (λ w. sum_on w vs)) (sym (number_judged a)) ∙ e)
   where
-    by_total : (n : Num) (w : Value) → ((m : Num) → sum_on (number_value m) vs ≡ Ok s → s ≡ exact_sum (m ∷ numbers vs))
-        → Together a n w → sum_on w vs ≡ Ok s
-        → s ≡ exact_sum (a ∷ n ∷ numbers vs)
-    by_total n w same t f = same t.total (ap (λ x. sum_on x vs) t.value ∙ f) ∙ joined a n t.total (numbers vs) t.joins
-
     by_result : (n : Num) (o : Outcome) → number_result Add a n ≡ o → ((m : Num) → sum_on (number_value m) vs ≡ Ok s
         → s ≡ exact_sum (m ∷ numbers vs))
         → and_then o (λ w. sum_on w vs) ≡ Ok s → s ≡ exact_sum (a ∷ n ∷ numbers vs)
     by_result n (Err fault) is same f = absurd (cc)
-    by_result n (Ok w) is same f = by_total n w same (summed a n w is) f
+    by_result n (Ok w) is same f = same (plus a n) (ap (λ x. sum_on x vs) (plus_told a n w is) ∙ f) ∙ joined a n (numbers vs)
 
     by_operand : (o : Result (Option Num) ValueFault) → is_judged o ≡ true → ((m : Num) → sum_on (number_value m) vs ≡ Ok s
         → s ≡ exact_sum (m ∷ numbers vs))
@@ -206,3 +229,61 @@ average_is_exact x rows t e =
     let vs : List Value = values (agg.Avg x) rows in
     sum_there (sum_of vs) (λ s. Averaged s (length vs)) vs t (λ s is. exact vs s (all_there (agg.Avg x) rows) is) (of_values (agg.Avg
     x) rows t e)
+
+-- ---- lists in two parts
+
+-- the sum of numbers, one by one
+abbrev sum_from : Num → List Num → Num
+sum_from a [] = a
+sum_from a (n ∷ ns) = sum_from (plus a n) ns
+
+many_as_one : (a : Num) (ns rest : List Num) → SameSum (sum_from a ns ∷ rest) (a ∷ (ns ++ rest))
+many_as_one a [] rest = record { scale = refl; coefficients = λ t h. refl; ints = refl }
+many_as_one a (n ∷ ns) rest =
+    same_trans (sum_from (plus a n) ns ∷ rest) (plus a n ∷ (ns ++ rest)) (a ∷ n ∷ (ns ++ rest)) (many_as_one (plus a n) ns rest) (two_as_one a n (ns ++ rest))
+
+sum_is : (a : Num) (ns : List Num) → exact_sum (a ∷ ns) ≡ number_value (sum_from a ns)
+sum_is a ns =
+    ap (λ l. exact_sum (a ∷ l)) (sym (append-nil ns)) ∙ sym (same_exact (sum_from a ns) a [] (ns ++ []) (many_as_one a ns [])) ∙ alone (sum_from a ns)
+
+-- the sum of two sums
+two_parts : (a b : Num) (ns ms : List Num) → exact_sum (a ∷ (ns ++ b ∷ ms)) ≡ number_value (plus (sum_from a ns) (sum_from b ms))
+two_parts a b ns ms =
+    let c : Num = sum_from a ns in
+    let d : Num = sum_from b ms in
+    sym (same_exact c a (b ∷ ms) (ns ++ b ∷ ms) (many_as_one a ns (b ∷ ms)))
+    ∙ ap (λ l. exact_sum (c ∷ b ∷ l)) (sym (append-nil ms))
+    ∙ sym (same_exact c c (d ∷ []) (b ∷ (ms ++ [])) (same_behind c (d ∷ []) (b ∷ (ms ++ [])) (many_as_one b ms [])))
+    ∙ sym (joined c d []) ∙ alone (plus c d)
+
+refused_or : (o : Outcome) (m : Value) → refusing o ≡ Ok m → o ≡ Ok m
+refused_or (Ok v) m e = let same : v ≡ m = cc in ap Ok same
+refused_or (Err fault) m e = absurd (cc)
+
+added_there : (a b : Num) (m : Value) → merged_sums (number_value a) (number_value b) ≡ Ok m → m ≡ number_value (plus a b)
+unfolding calculated number_operand
+added_there (number.Int a) (number.Int b) m e = sym (plus_told (number.Int a) (number.Int b) m (refused_or _ m e))
+added_there (number.Int a) (number.Dec b) m e = sym (plus_told (number.Int a) (number.Dec b) m (refused_or _ m e))
+added_there (number.Dec a) (number.Int b) m e = sym (plus_told (number.Dec a) (number.Int b) m (refused_or _ m e))
+added_there (number.Dec a) (number.Dec b) m e = sym (plus_told (number.Dec a) (number.Dec b) m (refused_or _ m e))
+
+number_counts : (a : Num) → is_there (number_value a) ≡ true
+number_counts (number.Int n) = refl
+number_counts (number.Dec d) = refl
+
+pub sums_merge : (xs ys : List Num) (m : Value) → merged_sums (exact_sum xs) (exact_sum ys) ≡ Ok m → m ≡ exact_sum (xs ++ ys)
+sums_merge [] ys m e = let same : exact_sum ys ≡ m = cc in sym same
+sums_merge (a ∷ ns) [] m e =
+    let kept : merged_sums (exact_sum (a ∷ ns)) Null ≡ Ok (exact_sum (a ∷ ns)) =
+    ap (λ b. cond b (Ok (exact_sum (a ∷ ns))) (Ok Null)) (ap is_there (sum_is a ns) ∙ number_counts (sum_from a ns)) in
+    let same : exact_sum (a ∷ ns) ≡ m = cc in
+    sym same ∙ ap exact_sum (sym (append-nil (a ∷ ns)))
+sums_merge (a ∷ ns) (b ∷ ms) m e =
+    added_there (sum_from a ns) (sum_from b ms) m
+    (ap (merged_sums (number_value (sum_from a ns))) (sym (sum_is b ms)) ∙ ap (λ v. merged_sums v (exact_sum (b ∷ ms))) (sym (sum_is a ns)) ∙ e)
+    ∙ sym (two_parts a b ns ms)
+
+pub numbers-append : (xs ys : List Value) → numbers (xs ++ ys) ≡ numbers xs ++ numbers ys
+numbers-append [] ys = refl
+numbers-append (x ∷ xs) ys =
+    ap (λ l. operand_number (number_operand x) ++ l) (numbers-append xs ys) ∙ sym (append_assoc (operand_number (number_operand x)) (numbers xs) (numbers ys))

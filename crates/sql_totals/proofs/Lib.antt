@@ -2,4 +2,5 @@ mod Adding
 mod ExactSums
 mod OfRows
 mod OfValues
+mod Ordered
 mod Written

@@ -1,6 +1,7 @@
 pub mod Exact
 pub mod HeldValues
 pub mod Keeping
+pub mod Merging
 pub mod Overall
 pub mod Partials
 pub mod Rooms
