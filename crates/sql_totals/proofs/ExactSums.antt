@@ -127,9 +127,9 @@ two_as_one a n ns =
     record {
       scale = scales;
       coefficients = λ t h.
-      let within : scale_of (plus a n) ≤ t = omega (arith, h) in
-      ap (λ c. c +ℤ coefficients_at t ns) (j.coefficient t within)
-      ∙ +ℤ_assoc (aligned (fraction_of a) t) (aligned (fraction_of n) t) (coefficients_at t ns);
+          let within : scale_of (plus a n) ≤ t = omega (arith, h) in
+          ap (λ c. c +ℤ coefficients_at t ns) (j.coefficient t within)
+          ∙ +ℤ_assoc (aligned (fraction_of a) t) (aligned (fraction_of n) t) (coefficients_at t ns);
       ints = ap (λ b. b && are_ints ns) j.ints ∙ and_assoc (is_int a) (is_int n) (are_ints ns);
     }
 
@@ -138,8 +138,8 @@ same_behind a xs ys s =
     record {
       scale = ap (λ k. max (scale_of a) k) s.scale;
       coefficients = λ t h.
-      let within : largest_scale xs ≤ t = omega (arith, h) in
-      ap (λ c. aligned (fraction_of a) t +ℤ c) (s.coefficients t within);
+          let within : largest_scale xs ≤ t = omega (arith, h) in
+          ap (λ c. aligned (fraction_of a) t +ℤ c) (s.coefficients t within);
       ints = ap (λ b. is_int a && b) s.ints;
     }
 
@@ -240,11 +240,13 @@ sum_from a (n ∷ ns) = sum_from (plus a n) ns
 many_as_one : (a : Num) (ns rest : List Num) → SameSum (sum_from a ns ∷ rest) (a ∷ (ns ++ rest))
 many_as_one a [] rest = record { scale = refl; coefficients = λ t h. refl; ints = refl }
 many_as_one a (n ∷ ns) rest =
-    same_trans (sum_from (plus a n) ns ∷ rest) (plus a n ∷ (ns ++ rest)) (a ∷ n ∷ (ns ++ rest)) (many_as_one (plus a n) ns rest) (two_as_one a n (ns ++ rest))
+    same_trans (sum_from (plus a n) ns ∷ rest) (plus a n ∷ (ns ++ rest)) (a ∷ n ∷ (ns ++ rest)) (many_as_one (plus a n) ns rest)
+    (two_as_one a n (ns ++ rest))
 
 sum_is : (a : Num) (ns : List Num) → exact_sum (a ∷ ns) ≡ number_value (sum_from a ns)
 sum_is a ns =
-    ap (λ l. exact_sum (a ∷ l)) (sym (append-nil ns)) ∙ sym (same_exact (sum_from a ns) a [] (ns ++ []) (many_as_one a ns [])) ∙ alone (sum_from a ns)
+    ap (λ l. exact_sum (a ∷ l)) (sym (append-nil ns)) ∙ sym (same_exact (sum_from a ns) a [] (ns ++ []) (many_as_one a ns []))
+    ∙ alone (sum_from a ns)
 
 -- the sum of two sums
 two_parts : (a b : Num) (ns ms : List Num) → exact_sum (a ∷ (ns ++ b ∷ ms)) ≡ number_value (plus (sum_from a ns) (sum_from b ms))
@@ -280,10 +282,12 @@ sums_merge (a ∷ ns) [] m e =
     sym same ∙ ap exact_sum (sym (append-nil (a ∷ ns)))
 sums_merge (a ∷ ns) (b ∷ ms) m e =
     added_there (sum_from a ns) (sum_from b ms) m
-    (ap (merged_sums (number_value (sum_from a ns))) (sym (sum_is b ms)) ∙ ap (λ v. merged_sums v (exact_sum (b ∷ ms))) (sym (sum_is a ns)) ∙ e)
+    (ap (merged_sums (number_value (sum_from a ns))) (sym (sum_is b ms))
+    ∙ ap (λ v. merged_sums v (exact_sum (b ∷ ms))) (sym (sum_is a ns)) ∙ e)
     ∙ sym (two_parts a b ns ms)
 
 pub numbers-append : (xs ys : List Value) → numbers (xs ++ ys) ≡ numbers xs ++ numbers ys
 numbers-append [] ys = refl
 numbers-append (x ∷ xs) ys =
-    ap (λ l. operand_number (number_operand x) ++ l) (numbers-append xs ys) ∙ sym (append_assoc (operand_number (number_operand x)) (numbers xs) (numbers ys))
+    ap (λ l. operand_number (number_operand x) ++ l) (numbers-append xs ys)
+    ∙ sym (append_assoc (operand_number (number_operand x)) (numbers xs) (numbers ys))

@@ -1,5 +1,6 @@
 mod Adding
 mod ExactSums
+mod Merges
 mod OfRows
 mod OfValues
 mod Ordered

@@ -1,5 +1,5 @@
 -- An aggregate over rows, told by the values that count.
-use Rattle.std.proofs.Common.{◌≡◌, ℕ, suc, ◌+◌, Bool, true, false, cond, List, [], ◌∷◌, ◌++◌, length, refl, sym, ◌∙◌, ap, arith, append_assoc, zero-add}
+use Rattle.std.proofs.Common.{◌≡◌, ℕ, suc, ◌+◌, Bool, true, false, cond, List, [], ◌∷◌, ◌++◌, length, refl, sym, ◌∙◌, ap, subst, arith, append_assoc, zero-add}
 use Rattle.std.specs.Prelude.{ℤ, ◌^◌, nat_lt, Option, None, Some, Result, Ok, Err}
 use Rattle.sql_bound.specs.declared.tree.BoundAgg.{BoundAgg}
 use Rattle.sql_bound.specs.declared.tree.BoundAgg.TheVariants as agg
@@ -89,6 +89,27 @@ counts [] n u e = let z : n + 0 ≡ n = omega arith in ap counted_as z ∙ e
 counts (v ∷ vs) n u e =
     let z : n + suc (length vs) ≡ (n + 1) + length vs = omega arith in
     ap counted_as z ∙ counted_by (nat_lt (n + 1) (2 ^ 63)) n vs u (λ m. counts vs m u) e
+
+-- a count that was taken is within the range of an Int
+abbrev pub IsBelow : Partial → Type 0
+IsBelow (Counted n) = nat_lt n (2 ^ 63) ≡ true
+IsBelow (Summed sum) = Unit {0}
+IsBelow (Averaged sum n) = Unit {0}
+IsBelow (Least kept) = Unit {0}
+IsBelow (Greatest kept) = Unit {0}
+
+taken_below : (vs : List Value) (n : ℕ) (u : Partial) → nat_lt n (2 ^ 63) ≡ true → taken_all vs (Counted n) ≡ Ok u → IsBelow u
+taken_below [] n u below e = let same : Counted n ≡ u = cc in subst IsBelow same below
+taken_below (v ∷ vs) n u below e = by (nat_lt (n + 1) (2 ^ 63)) refl (λ b. taken_below vs (n + 1) u b) e
+  where
+    by : (b : Bool) → nat_lt (n + 1) (2 ^ 63) ≡ b → (nat_lt (n + 1) (2 ^ 63) ≡ true → taken_all vs (Counted (n + 1)) ≡ Ok u → IsBelow u)
+        → and_on (made Counted (cond b (Ok (n + 1)) (Err (refused.Value IntegerOverflow)))) (taken_all vs) ≡ Ok u → IsBelow u
+    by true is same f = same is f
+    by false is same f = absurd (cc)
+
+pub count_below : (rows : List (List Value)) (a : BoundAgg) (u : Partial) → start a ≡ Counted 0
+    → added_to_one a rows (start a) ≡ Ok u → IsBelow u
+count_below rows a u is e = taken_below (values a rows) 0 u refl (ap (taken_all (values a rows)) (sym is) ∙ by_values a rows (start a) u e)
 
 -- ---- SUM: what is summed up is a number, and so no NULL
 

@@ -54,10 +54,12 @@ lt_told ordering.Less e = refl
 lt_told ordering.Equal e = absurd (cc)
 lt_told ordering.Greater e = absurd (cc)
 
-lt_trans : {K : Type 0} (R : K → K → Ordering) → IsTotalOrder R → (x y z : K) → is_lt (R x y) ≡ true → is_lt (R y z) ≡ true → is_lt (R x z) ≡ true
+lt_trans : {K : Type 0} (R : K → K → Ordering) → IsTotalOrder R → (x y z : K) → is_lt (R x y) ≡ true → is_lt (R y z) ≡ true
+    → is_lt (R x z) ≡ true
 lt_trans R total x y z e f = ap is_lt (total.trans x y z (lt_told (R x y) e) (lt_told (R y z) f))
 
-lt_between : {K : Type 0} (R : K → K → Ordering) → IsTotalOrder R → (x y z : K) → is_lt (R y z) ≡ false → is_lt (R x y) ≡ false → is_lt (R x z) ≡ false
+lt_between : {K : Type 0} (R : K → K → Ordering) → IsTotalOrder R → (x y z : K) → is_lt (R y z) ≡ false → is_lt (R x y) ≡ false
+    → is_lt (R x z) ≡ false
 lt_between R total x y z e f = by (is_lt (R x z)) refl
   where
     at : (r : Ordering) → R x y ≡ r → R x z ≡ ordering.Less → is_lt (R x z) ≡ false
@@ -67,18 +69,20 @@ lt_between R total x y z e f = by (is_lt (R x z)) refl
         let back : R y x ≡ ordering.Less = total.antisymm y x ∙ ap ordering_reverse is in
         let yes : is_lt (R y z) ≡ true = ap is_lt (total.trans y x z back h) in
         absurd (cc)
+
     by : (b : Bool) → is_lt (R x z) ≡ b → is_lt (R x z) ≡ false
     by false h = h
     by true h = at (R x y) refl (lt_told (R x z) h)
 
-kind_of : {K : Type 0} (R : K → K → Ordering) (key : Value → K) (p : Value → Bool) → IsTotalOrder R → ((v : Value) → p v ≡ true → is_there v ≡ true)
+kind_of : {K : Type 0} (R : K → K → Ordering) (key : Value → K) (p : Value → Bool) → IsTotalOrder R → ((v : Value) → p v ≡ true
+    → is_there v ≡ true)
     → ((v w : Value) → p v ≡ true → p w ≡ true → order_of v w ≡ known (R (key v) (key w))) → IsKind p (λ v w. is_lt (R (key v) (key w)))
 kind_of R key p total there tells =
     record {
       there = there;
       less = λ v w x y. ap (precedes Least) (tells v w x y) ∙ least_known (R (key v) (key w));
       more = λ v w x y. ap (precedes Greatest) (tells v w x y)
-      ∙ ap (λ r. precedes Greatest (known r)) (total.antisymm (key v) (key w)) ∙ greatest_known (R (key w) (key v));
+          ∙ ap (λ r. precedes Greatest (known r)) (total.antisymm (key v) (key w)) ∙ greatest_known (R (key w) (key v));
       trans = λ x y z. lt_trans R total (key x) (key y) (key z);
       between = λ x y z. lt_between R total (key x) (key y) (key z);
     }
@@ -86,7 +90,8 @@ kind_of R key p total there tells =
 -- ---- the four kinds
 
 -- two fractions over the denominators of three
-over_three : (a b : ℤ) (d e f : ℕ) → int_cmp (a *ℤ pos (10 ^ e)) (b *ℤ pos (10 ^ d)) ≡ int_cmp (a *ℤ pos (10 ^ e * 10 ^ f)) (b *ℤ pos (10 ^ d * 10 ^ f))
+over_three : (a b : ℤ) (d e f : ℕ) → int_cmp (a *ℤ pos (10 ^ e)) (b *ℤ pos (10 ^ d)) ≡ int_cmp (a *ℤ pos (10 ^ e * 10 ^ f)) (b *ℤ pos
+    (10 ^ d * 10 ^ f))
 over_three a b d e f =
     scale_cmp (a *ℤ pos (10 ^ e)) (b *ℤ pos (10 ^ d)) (10 ^ f) (ten_pow_pos f)
     ∙ ap (λ x. int_cmp x ((b *ℤ pos (10 ^ d)) *ℤ pos (10 ^ f))) (scale_scale a (10 ^ e) (10 ^ f))
@@ -127,8 +132,10 @@ fractions_total : IsTotalOrder compared
 fractions_total =
     record {
       antisymm = compared_back;
-      trans = λ a b c x y. outer_two a b c ∙ int_cmp_total.trans (over a b c) (over b a c) (over c a b) (sym (first_two a b c) ∙ x) (sym (last_two a b c) ∙ y);
-      congr = λ a b c x. outer_two a b c ∙ int_cmp_total.congr (over a b c) (over b a c) (over c a b) (sym (first_two a b c) ∙ x) ∙ sym (last_two a b c);
+      trans = λ a b c x y. outer_two a b c ∙ int_cmp_total.trans (over a b c) (over b a c) (over c a b) (sym (first_two a b c)
+          ∙ x) (sym (last_two a b c) ∙ y);
+      congr = λ a b c x. outer_two a b c ∙ int_cmp_total.congr (over a b c) (over b a c) (over c a b) (sym (first_two a b c) ∙ x)
+          ∙ sym (last_two a b c);
     }
 
 -- a value of a kind, by what it is made from
@@ -167,7 +174,8 @@ fraction_key (Int n) = whole n
 fraction_key (Dec d) = d
 fraction_key _ = whole (pos 0)
 
-number_orders : (a b : Num) → order_of (number_value a) (number_value b) ≡ known (compared (fraction_key (number_value a)) (fraction_key (number_value b)))
+number_orders : (a b : Num) → order_of (number_value a) (number_value b) ≡ known (compared (fraction_key (number_value a))
+    (fraction_key (number_value b)))
 unfolding order_of
 number_orders (number.Int a) (number.Int b) = refl
 number_orders (number.Int a) (number.Dec b) = refl
@@ -342,11 +350,13 @@ picks_from p lt kind e k v [] = refl
 picks_from p lt kind e k v (w ∷ ws) =
     ap (λ x. picks lt e x ws) (pick_assoc p lt kind e k v w) ∙ picks_from p lt kind e k (pick lt e v w) ws
 
-picks-append : (lt : Value → Value → Bool) (e : Extreme) (k : Value) (xs ys : List Value) → picks lt e k (xs ++ ys) ≡ picks lt e (picks lt e k xs) ys
+picks-append : (lt : Value → Value → Bool) (e : Extreme) (k : Value) (xs ys : List Value)
+    → picks lt e k (xs ++ ys) ≡ picks lt e (picks lt e k xs) ys
 picks-append lt e k [] ys = refl
 picks-append lt e k (x ∷ xs) ys = picks-append lt e (pick lt e k x) xs ys
 
-on_kept : (p : Value → Bool) (lt : Value → Value → Bool) → IsKind p lt → (e : Extreme) (vs : List Value) (k m : Value) → p k ≡ true → AllOf p vs
+on_kept : (p : Value → Bool) (lt : Value → Value → Bool) → IsKind p lt → (e : Extreme) (vs : List Value) (k m : Value) → p k ≡ true
+    → AllOf p vs
     → kept_on e k vs ≡ Ok m → m ≡ picks lt e k vs
 on_kept p lt kind e [] k m x all h = let same : k ≡ m = cc in sym same
 on_kept p lt kind e (v ∷ vs) k m x all h =
@@ -355,6 +365,7 @@ on_kept p lt kind e (v ∷ vs) k m x all h =
     at : (n : Value) → n ≡ pick lt e k v → ((w : Value) → p w ≡ true → kept_on e w vs ≡ Ok m → m ≡ picks lt e w vs) → kept_on e n vs ≡ Ok m
         → m ≡ picks lt e (pick lt e k v) vs
     at n is same g = same (pick lt e k v) (pick_kind p lt e k v x all.0) (ap (λ w. kept_on e w vs) (sym is) ∙ g)
+
     by : (o : Result Value TotalFault) → kept_with e k v ≡ o → ((w : Value) → p w ≡ true → kept_on e w vs ≡ Ok m → m ≡ picks lt e w vs)
         → and_on o (λ n. kept_on e n vs) ≡ Ok m → m ≡ picks lt e (pick lt e k v) vs
     by (Err fault) is same g = absurd (cc)
@@ -381,7 +392,8 @@ all_back : (p : Value → Bool) (xs ys : List Value) → AllOf p (xs ++ ys) → 
 all_back p [] ys all = all
 all_back p (x ∷ xs) ys all = all_back p xs ys all.1
 
-of_parts : (p : Value → Bool) (lt : Value → Value → Bool) → IsKind p lt → (e : Extreme) (xs ys : List Value) (a b m : Value) → AllOf p (xs ++ ys)
+of_parts : (p : Value → Bool) (lt : Value → Value → Bool) → IsKind p lt → (e : Extreme) (xs ys : List Value) (a b m : Value)
+    → AllOf p (xs ++ ys)
     → kept_on e Null xs ≡ Ok a → kept_on e Null ys ≡ Ok b → kept_on e Null (xs ++ ys) ≡ Ok m → merged_kept e a b ≡ Ok m
 of_parts p lt kind e [] [] a b m all f g h =
     let first : Null ≡ a = cc in
@@ -390,7 +402,8 @@ of_parts p lt kind e [] [] a b m all f g h =
     ap (λ v. merged_kept e v b) (sym first) ∙ ap (merged_kept e Null) (sym second) ∙ ap Ok whole
 of_parts p lt kind e [] (y ∷ ys) a b m all f g h =
     let first : Null ≡ a = cc in
-    let same : b ≡ m = on_kept p lt kind e ys y b all.0 all.1 (first_kept e y ys b g) ∙ sym (on_kept p lt kind e ys y m all.0 all.1 (first_kept e y ys m h)) in
+    let same : b ≡ m = on_kept p lt kind e ys y b all.0 all.1 (first_kept e y ys b g)
+    ∙ sym (on_kept p lt kind e ys y m all.0 all.1 (first_kept e y ys m h)) in
     let is_kind : p b ≡ true = ap p (on_kept p lt kind e ys y b all.0 all.1 (first_kept e y ys b g)) ∙ picks_kind p lt e y ys all.0 all.1 in
     ap (λ v. merged_kept e v b) (sym first) ∙ ap (λ t. cond t (kept_of_two e Null b) (Ok Null)) (kind.there b is_kind) ∙ ap Ok same
 of_parts p lt kind e (x ∷ xs) [] a b m all f g h =
@@ -424,7 +437,8 @@ all_told p (v ∷ vs) e = (and_left (p v) (list_all p vs) e, all_told p vs (and_
 pub kept_of_parts : (e : Extreme) (xs ys : List Value) (a b m : Value) → are_of_one_kind (xs ++ ys) ≡ true
     → kept_on e Null xs ≡ Ok a → kept_on e Null ys ≡ Ok b → kept_on e Null (xs ++ ys) ≡ Ok m → merged_kept e a b ≡ Ok m
 kept_of_parts e xs ys a b m one f g h =
-    by (list_all is_number (xs ++ ys)) (list_all is_text (xs ++ ys)) (list_all is_timestamp (xs ++ ys)) (list_all is_truth (xs ++ ys)) refl refl refl refl one
+    by (list_all is_number (xs ++ ys)) (list_all is_text (xs ++ ys)) (list_all is_timestamp (xs ++ ys)) (list_all is_truth (xs ++ ys))
+    refl refl refl refl one
   where
     by : (n t s u : Bool) → list_all is_number (xs ++ ys) ≡ n → list_all is_text (xs ++ ys) ≡ t → list_all is_timestamp (xs ++ ys) ≡ s
         → list_all is_truth (xs ++ ys) ≡ u → n || (t || (s || u)) ≡ true → merged_kept e a b ≡ Ok m

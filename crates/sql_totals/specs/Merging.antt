@@ -70,10 +70,10 @@ can_be_merged (agg.Min e) vs = are_of_one_kind vs
 can_be_merged (agg.Max e) vs = are_of_one_kind vs
 can_be_merged (agg.Avg e) vs = true
 
--- The merge of two totals is that total. A merged sum or count may overflow where that of the rows doesn't: then nothing is said.
+-- The merge of two totals is that total. The sum of two sums may overflow where `+` in order doesn't: then nothing is said.
 abbrev pub MergesTo : BoundAgg → Result Partial TotalFault → Partial → Type 0
-MergesTo agg.CountAll merge t = IfOk merge (λ m. m ≡ t)
-MergesTo (agg.Count e) merge t = IfOk merge (λ m. m ≡ t)
+MergesTo agg.CountAll merge t = merge ≡ Ok t
+MergesTo (agg.Count e) merge t = merge ≡ Ok t
 MergesTo (agg.Sum e) merge t = IfOk merge (λ m. m ≡ t)
 MergesTo (agg.Min e) merge t = merge ≡ Ok t
 MergesTo (agg.Max e) merge t = merge ≡ Ok t

@@ -1,11 +1,12 @@
 //! Laws of the definitions.
-ghost use Rattle.std.specs.Prelude.{◌≡◌, ◌↔◌, ◌++◌, List, length, Ok};
+ghost use Rattle.std.specs.Prelude.{◌≡◌, ◌↔◌, ◌++◌, List, length, true, Ok};
 ghost use Rattle.sql_bound.specs.declared.tree.Bound.{Bound};
 ghost use Rattle.sql_bound.specs.declared.tree.BoundAgg.{BoundAgg};
 ghost use Rattle.sql_bound.specs.declared.tree.BoundAgg.TheVariants.{Sum, Avg};
 ghost use Rattle.sql_value.specs.declared.value.Value.{Value};
 ghost use Rattle.sql_totals.specs.Partials.{Partial, Summed, Averaged, start};
 ghost use Rattle.sql_totals.specs.Exact.{numbers, exact_sum};
+ghost use Rattle.sql_totals.specs.Merging.{can_be_merged, merged, MergesTo};
 ghost use Rattle.sql_totals.specs.Overall.{and_on, added_all, added_to_one, each_by_itself, values, total_of};
 
 /// Rows in two parts: the second part is added to the totals of the first.
@@ -38,4 +39,13 @@ pub fn sums_are_exact()
     ensures average { (e : Bound) (rows : List (List Value)) (t : Partial)
         → added_to_one (Avg e) rows (start (Avg e)) ≡ Ok t
         → t ≡ Averaged (exact_sum (numbers (values (Avg e) rows))) (length (values (Avg e) rows)) }
+{}
+
+/// Rows in two parts, where neither has a fault nor both together: the total of all is that of the first merged with that of the second.
+/// The values before MIN and MAX are of one kind, all numbers, all texts, all timestamps or all truth values.
+pub fn totals_of_parts()
+    ensures { (a : BoundAgg) (first second : List (List Value)) (t u w : Partial)
+        → can_be_merged a (values a (first ++ second)) ≡ true
+        → added_to_one a first (start a) ≡ Ok t → added_to_one a second (start a) ≡ Ok u
+        → added_to_one a (first ++ second) (start a) ≡ Ok w → MergesTo a (merged t u) w }
 {}

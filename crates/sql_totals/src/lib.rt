@@ -12,5 +12,7 @@ mod sums;
 mod totals;
 
 pub use crate::fault::TotalFault;
-pub use crate::laws::{rows_in_parts, sums_are_exact, totals_of_rows, totals_of_values};
+pub use crate::laws::{
+    rows_in_parts, sums_are_exact, totals_of_parts, totals_of_rows, totals_of_values,
+};
 pub use crate::totals::Totals;
