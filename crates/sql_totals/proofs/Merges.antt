@@ -1,6 +1,7 @@
 -- The totals of two parts of the rows tell those of all.
-use Rattle.std.proofs.Common.{◌≡◌, ℕ, ◌+◌, Bool, true, false, cond, List, [], ◌∷◌, ◌++◌, length, length-append, refl, sym, ◌∙◌, ap, subst}
+use Rattle.std.proofs.Common.{◌≡◌, ℕ, ◌+◌, Bool, true, false, cond, List, ◌++◌, length, length-append, refl, sym, ◌∙◌, ap, subst}
 use Rattle.std.specs.Prelude.{◌^◌, nat_lt, Result, Ok, Err, IfOk}
+use Rattle.sql_bound.specs.declared.tree.Bound.{Bound}
 use Rattle.sql_bound.specs.declared.tree.BoundAgg.{BoundAgg}
 use Rattle.sql_bound.specs.declared.tree.BoundAgg.TheVariants as agg
 use Rattle.sql_decimal.specs.declared.number.Num.{Num}
@@ -9,16 +10,16 @@ use Rattle.sql_value.specs.declared.value.Value.{Value}
 use Rattle.sql_value.specs.declared.value.Value.TheVariants.{Null}
 use Rattle.sql_totals.specs.declared.fault.TotalFault.{TotalFault}
 use Rattle.sql_totals.specs.declared.fault.TotalFault.TheVariants as refused
-use Rattle.sql_totals.specs.declared.keeping.Extreme.{Extreme}
 use Rattle.sql_totals.specs.declared.keeping.Extreme.TheVariants as extreme
 use Rattle.sql_totals.specs.Partials.{Partial, Counted, Summed, Averaged, Least, Greatest, start}
-use Rattle.sql_totals.specs.Stepped.{made}
+use Rattle.sql_totals.specs.Stepped.{made, is_there}
 use Rattle.sql_totals.specs.Overall.{added_to_one, values, kept_on, total_of}
 use Rattle.sql_totals.specs.Exact.{numbers, exact_sum}
-use Rattle.sql_totals.specs.Merging.{merged_counts, merged_sums, merged_averages, merged_kept, merged, are_of_one_kind, can_be_merged, MergesTo}
+use Rattle.sql_totals.specs.Extremes.{are_of_one_kind, IsExtreme}
+use Rattle.sql_totals.specs.Merging.{merged_sums, merged_averages, merged, can_be_merged, MergesTo}
 use Rattle.sql_totals.proofs.OfValues.{of_values, values-append, IsBelow, count_below}
 use Rattle.sql_totals.proofs.ExactSums.{sum_is_exact, average_is_exact, sums_merge, numbers-append}
-use Rattle.sql_totals.proofs.Ordered.{kept_of_parts}
+use Rattle.sql_totals.proofs.Ordered.{kept_of_parts, kept_is_extreme}
 
 -- the totals by what they are
 told : (a : BoundAgg) (t t' u u' w w' : Partial) → t ≡ t' → u ≡ u' → w ≡ w' → MergesTo a (merged t' u') w' → MergesTo a (merged t u) w
@@ -152,3 +153,33 @@ totals_merge (agg.Avg x) first second t u w one f g h =
     ∙ ap (λ l. Averaged (exact_sum l) (length (values a first ++ values a second))) (numbers-append (values a first) (values a second))
     ∙ ap (Averaged (exact_sum (numbers (values a first) ++ numbers (values a second)))) (length-append (values a first) (values a second)))
     (averages_here (numbers (values a first)) (numbers (values a second)) m n)
+
+-- ---- what MIN and MAX keep
+
+least_value : (k m : Value) → Least k ≡ Least m → k ≡ m
+least_value k m e = cc
+
+greatest_value : (k m : Value) → Greatest k ≡ Greatest m → k ≡ m
+greatest_value k m e = cc
+
+pub min_is_least : (x : Bound) (rows : List (List Value)) (k : Value) → are_of_one_kind (values (agg.Min x) rows) ≡ true → is_there k ≡ true
+    → added_to_one (agg.Min x) rows (start (agg.Min x)) ≡ Ok (Least k) → IsExtreme extreme.Least k (values (agg.Min x) rows)
+min_is_least x rows k one there e = by (kept_told Least (kept_on extreme.Least Null (values (agg.Min x) rows)) (Least k) (of_values
+    (agg.Min x) rows (Least k) e))
+  where
+    by : Kept Least (kept_on extreme.Least Null (values (agg.Min x) rows)) (Least k) → IsExtreme extreme.Least k (values (agg.Min x) rows)
+    by a =
+        let same : k ≡ a.value = least_value k a.value a.total in
+        kept_is_extreme extreme.Least (values (agg.Min x) rows) k one there (a.is ∙ ap Ok (sym same))
+
+pub max_is_greatest : (x : Bound) (rows : List (List Value)) (k : Value) → are_of_one_kind (values (agg.Max x) rows) ≡ true
+    → is_there k ≡ true
+    → added_to_one (agg.Max x) rows (start (agg.Max x)) ≡ Ok (Greatest k) → IsExtreme extreme.Greatest k (values (agg.Max x) rows)
+max_is_greatest x rows k one there e = by (kept_told Greatest (kept_on extreme.Greatest Null (values (agg.Max x) rows)) (Greatest k)
+    (of_values (agg.Max x) rows (Greatest k) e))
+  where
+    by : Kept Greatest (kept_on extreme.Greatest Null (values (agg.Max x) rows)) (Greatest k)
+        → IsExtreme extreme.Greatest k (values (agg.Max x) rows)
+    by a =
+        let same : k ≡ a.value = greatest_value k a.value a.total in
+        kept_is_extreme extreme.Greatest (values (agg.Max x) rows) k one there (a.is ∙ ap Ok (sym same))

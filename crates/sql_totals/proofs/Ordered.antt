@@ -1,5 +1,5 @@
 -- MIN and MAX over values of one kind, whose order is total: what two parts keep tells what is kept of both.
-use Rattle.std.proofs.Common.{◌≡◌, ℕ, ◌+◌, ◌*◌, ◌^◌, ◌<◌, ℤ, pos, ◌*ℤ◌, Bool, true, false, cond, ◌||◌, ◌&&◌, List, [], ◌∷◌, ◌++◌, append-nil, refl, sym, ◌∙◌, ap, subst, arith}
+use Rattle.std.proofs.Common.{◌≡◌, ℕ, ◌*◌, ◌^◌, ℤ, pos, ◌*ℤ◌, Bool, true, false, cond, ◌||◌, ◌&&◌, List, [], ◌∷◌, ◌++◌, append-nil, ◌⊎◌, inl, inr, refl, sym, ◌∙◌, ap, subst, arith}
 use Rattle.std.specs.Prelude.{Result, Ok, Err}
 use Rattle.std.specs.List.{list_all}
 use Rattle.std.specs.Ordering.{ordering_reverse, is_lt, int_cmp, bool_cmp, nat_cmp}
@@ -15,10 +15,8 @@ use Rattle.sql_timestamp.specs.Instants.{Timestamp}
 use Rattle.sql_eval.specs.Operations.{number_value}
 use Rattle.sql_decimal.proofs.Scaling.{scale_scale, scale_cmp}
 use Rattle.sql_decimal.proofs.PowersOfTen.{ten_pow_pos}
-use Rattle.sql_timestamp.specs.declared.fault.ValueFault.{ValueFault}
 use Rattle.sql_value.specs.declared.value.Value.{Value}
 use Rattle.sql_value.specs.declared.value.Value.TheVariants.{Missing, Null, Bool as Truth, Int, Dec, Text, Stamp, Node, Bad}
-use Rattle.sql_value.specs.declared.comparing.Order.{Order}
 use Rattle.sql_value.specs.Compared.{known, order_of}
 use Rattle.sql_value.specs.Numbers.{whole}
 use Rattle.sql_totals.specs.declared.fault.TotalFault.{TotalFault}
@@ -28,7 +26,8 @@ use Rattle.sql_totals.specs.declared.keeping.Extreme.TheVariants.{Least, Greates
 use Rattle.sql_totals.specs.Keeping.{precedes, replaces, kept_by, kept_of_two, kept_with, fits_room}
 use Rattle.sql_totals.specs.Stepped.{is_there}
 use Rattle.sql_totals.specs.Overall.{and_on, kept_on}
-use Rattle.sql_totals.specs.Merging.{merged_kept, is_number, is_text, is_timestamp, is_truth, are_of_one_kind}
+use Rattle.sql_totals.specs.Extremes.{is_number, is_text, is_timestamp, is_truth, are_of_one_kind, IsAmong, NonePrecedes, IsExtreme}
+use Rattle.sql_totals.specs.Merging.{merged_kept}
 
 -- ---- a kind, and its order
 
@@ -38,6 +37,7 @@ record IsKind (p : Value → Bool) (lt : Value → Value → Bool) : Type 0 wher
   more : (v w : Value) → p v ≡ true → p w ≡ true → precedes Greatest (order_of v w) ≡ Ok (lt w v)
   trans : (x y z : Value) → lt x y ≡ true → lt y z ≡ true → lt x z ≡ true
   between : (x y z : Value) → lt y z ≡ false → lt x y ≡ false → lt x z ≡ false
+  irrefl : (x : Value) → lt x x ≡ false
 
 least_known : (r : Ordering) → precedes Least (known r) ≡ Ok (is_lt r)
 least_known ordering.Less = refl
@@ -74,6 +74,14 @@ lt_between R total x y z e f = by (is_lt (R x z)) refl
     by false h = h
     by true h = at (R x y) refl (lt_told (R x z) h)
 
+lt_irrefl : {K : Type 0} (R : K → K → Ordering) → IsTotalOrder R → (x : K) → is_lt (R x x) ≡ false
+lt_irrefl R total x = by (R x x) (total.antisymm x x)
+  where
+    by : (r : Ordering) → r ≡ ordering_reverse r → is_lt r ≡ false
+    by ordering.Less e = absurd (cc)
+    by ordering.Equal e = refl
+    by ordering.Greater e = refl
+
 kind_of : {K : Type 0} (R : K → K → Ordering) (key : Value → K) (p : Value → Bool) → IsTotalOrder R → ((v : Value) → p v ≡ true
     → is_there v ≡ true)
     → ((v w : Value) → p v ≡ true → p w ≡ true → order_of v w ≡ known (R (key v) (key w))) → IsKind p (λ v w. is_lt (R (key v) (key w)))
@@ -85,6 +93,7 @@ kind_of R key p total there tells =
           ∙ ap (λ r. precedes Greatest (known r)) (total.antisymm (key v) (key w)) ∙ greatest_known (R (key w) (key v));
       trans = λ x y z. lt_trans R total (key x) (key y) (key z);
       between = λ x y z. lt_between R total (key x) (key y) (key z);
+      irrefl = λ x. lt_irrefl R total (key x);
     }
 
 -- ---- the four kinds
@@ -422,6 +431,74 @@ of_parts p lt kind e (x ∷ xs) (y ∷ ys) a b m all f g h =
     ∙ ap Ok (ap (λ v. pick lt e v b) first ∙ ap (pick lt e (picks lt e x xs)) second ∙ sym (picks_from p lt kind e (picks lt e x xs) y ys)
     ∙ sym (picks-append lt e x xs (y ∷ ys)) ∙ sym whole)
 
+-- ---- what is kept is one of the values, and none precedes it
+
+before_none : (p : Value → Bool) (lt : Value → Value → Bool) → IsKind p lt → (e : Extreme) (x : Value) → before lt e x x ≡ false
+before_none p lt kind Least x = kind.irrefl x
+before_none p lt kind Greatest x = kind.irrefl x
+
+first_not_before : (p : Value → Bool) (lt : Value → Value → Bool) → IsKind p lt → (e : Extreme) (k : Value) (vs : List Value)
+    → before lt e k (picks lt e k vs) ≡ false
+first_not_before p lt kind e k [] = before_none p lt kind e k
+first_not_before p lt kind e k (v ∷ vs) =
+    by (before lt e v k) (before lt e k (picks lt e (pick lt e k v) vs)) refl refl (first_not_before p lt kind e (pick lt e k v) vs)
+  where
+    by : (b c : Bool) → before lt e v k ≡ b → before lt e k (picks lt e (pick lt e k v) vs) ≡ c
+        → before lt e (cond b v k) (picks lt e (pick lt e k v) vs) ≡ false → before lt e k (picks lt e (pick lt e k v) vs) ≡ false
+    by false c x y h = h
+    by true false x y h = y
+    by true true x y h =
+        let after : before lt e v (picks lt e (pick lt e k v) vs) ≡ true =
+        before_trans p lt kind e v k (picks lt e (pick lt e k v) vs) x y in
+        absurd (cc)
+
+-- a value is not before what is kept of the other one and it, nor before what that one isn't before
+not_before : (p : Value → Bool) (lt : Value → Value → Bool) → IsKind p lt → (e : Extreme) (k v m : Value)
+    → before lt e (pick lt e k v) m ≡ false → before lt e v m ≡ false
+not_before p lt kind e k v m = by (before lt e v k) refl
+  where
+    by : (b : Bool) → before lt e v k ≡ b → before lt e (cond b v k) m ≡ false → before lt e v m ≡ false
+    by true x h = h
+    by false x h = before_between p lt kind e v k m x h
+
+none_before : (p : Value → Bool) (lt : Value → Value → Bool) → IsKind p lt → (e : Extreme) (k : Value) (vs : List Value) (m : Value)
+    → m ≡ picks lt e k vs → p m ≡ true → AllOf p vs → NonePrecedes e m vs
+none_before p lt kind e k [] m is x all = tt
+none_before p lt kind e k (v ∷ vs) m is x all =
+    let first : before lt e (pick lt e k v) m ≡ false =
+    ap (before lt e (pick lt e k v)) is ∙ first_not_before p lt kind e (pick lt e k v) vs in (
+      precedes_is p lt kind e m v x all.0 ∙ ap Ok (not_before p lt kind e k v m first),
+      none_before p lt kind e (pick lt e k v) vs m is x all.1,
+    )
+
+picked_among : (lt : Value → Value → Bool) (e : Extreme) (k v m : Value) (vs : List Value) → (pick lt e k v ≡ m) ⊎ IsAmong m vs
+    → (k ≡ m) ⊎ ((v ≡ m) ⊎ IsAmong m vs)
+picked_among lt e k v m vs = by (before lt e v k)
+  where
+    by : (b : Bool) → (cond b v k ≡ m) ⊎ IsAmong m vs → (k ≡ m) ⊎ ((v ≡ m) ⊎ IsAmong m vs)
+    by true (inl h) = inr (inl h)
+    by false (inl h) = inl h
+    by b (inr h) = inr (inr h)
+
+among : (lt : Value → Value → Bool) (e : Extreme) (k : Value) (vs : List Value) → IsAmong (picks lt e k vs) (k ∷ vs)
+among lt e k [] = inl refl
+among lt e k (v ∷ vs) = picked_among lt e k v (picks lt e (pick lt e k v) vs) vs (among lt e (pick lt e k v) vs)
+
+extreme_of : (p : Value → Bool) (lt : Value → Value → Bool) → IsKind p lt → (e : Extreme) (vs : List Value) (m : Value) → AllOf p vs
+    → is_there m ≡ true → kept_on e Null vs ≡ Ok m → IsExtreme e m vs
+extreme_of p lt kind e [] m all there h = let none : Null ≡ m = cc in let not : is_there Null ≡ true = ap is_there none
+    ∙ there in absurd (cc)
+extreme_of p lt kind e (v ∷ vs) m all there h =
+    let is : m ≡ picks lt e v vs = on_kept p lt kind e vs v m all.0 all.1 (first_kept e v vs m h) in
+    let one : p m ≡ true = ap p is ∙ picks_kind p lt e v vs all.0 all.1 in
+    record {
+      among = subst (λ w. IsAmong w (v ∷ vs)) (sym is) (among lt e v vs);
+      none_before = (
+        precedes_is p lt kind e m v one all.0 ∙ ap Ok (ap (before lt e v) is ∙ first_not_before p lt kind e v vs),
+        none_before p lt kind e v vs m is one all.1,
+      );
+    }
+
 and_left : (a b : Bool) → (a && b) ≡ true → a ≡ true
 and_left true b e = refl
 and_left false b e = absurd (cc)
@@ -434,16 +511,25 @@ all_told : (p : Value → Bool) (vs : List Value) → list_all p vs ≡ true →
 all_told p [] e = tt
 all_told p (v ∷ vs) e = (and_left (p v) (list_all p vs) e, all_told p vs (and_right (p v) (list_all p vs) e))
 
+-- values of one kind are of one of the four
+of_one_kind : (T : Type 0) (vs : List Value) → are_of_one_kind vs ≡ true
+    → ((p : Value → Bool) (lt : Value → Value → Bool) → IsKind p lt → AllOf p vs → T) → T
+of_one_kind T vs one then = by (list_all is_number vs) (list_all is_text vs) (list_all is_timestamp vs) (list_all is_truth vs) refl
+    refl refl refl one
+  where
+    by : (n t s u : Bool) → list_all is_number vs ≡ n → list_all is_text vs ≡ t → list_all is_timestamp vs ≡ s → list_all is_truth vs ≡ u
+        → n || (t || (s || u)) ≡ true → T
+    by true t s u w x y z o = then is_number _ numbers_kind (all_told is_number vs w)
+    by false true s u w x y z o = then is_text _ texts_kind (all_told is_text vs x)
+    by false false true u w x y z o = then is_timestamp _ moments_kind (all_told is_timestamp vs y)
+    by false false false true w x y z o = then is_truth _ truths_kind (all_told is_truth vs z)
+    by false false false false w x y z o = absurd (cc)
+
 pub kept_of_parts : (e : Extreme) (xs ys : List Value) (a b m : Value) → are_of_one_kind (xs ++ ys) ≡ true
     → kept_on e Null xs ≡ Ok a → kept_on e Null ys ≡ Ok b → kept_on e Null (xs ++ ys) ≡ Ok m → merged_kept e a b ≡ Ok m
 kept_of_parts e xs ys a b m one f g h =
-    by (list_all is_number (xs ++ ys)) (list_all is_text (xs ++ ys)) (list_all is_timestamp (xs ++ ys)) (list_all is_truth (xs ++ ys))
-    refl refl refl refl one
-  where
-    by : (n t s u : Bool) → list_all is_number (xs ++ ys) ≡ n → list_all is_text (xs ++ ys) ≡ t → list_all is_timestamp (xs ++ ys) ≡ s
-        → list_all is_truth (xs ++ ys) ≡ u → n || (t || (s || u)) ≡ true → merged_kept e a b ≡ Ok m
-    by true t s u w x y z o = of_parts is_number _ numbers_kind e xs ys a b m (all_told is_number (xs ++ ys) w) f g h
-    by false true s u w x y z o = of_parts is_text _ texts_kind e xs ys a b m (all_told is_text (xs ++ ys) x) f g h
-    by false false true u w x y z o = of_parts is_timestamp _ moments_kind e xs ys a b m (all_told is_timestamp (xs ++ ys) y) f g h
-    by false false false true w x y z o = of_parts is_truth _ truths_kind e xs ys a b m (all_told is_truth (xs ++ ys) z) f g h
-    by false false false false w x y z o = absurd (cc)
+    of_one_kind (merged_kept e a b ≡ Ok m) (xs ++ ys) one (λ p lt kind all. of_parts p lt kind e xs ys a b m all f g h)
+
+pub kept_is_extreme : (e : Extreme) (vs : List Value) (m : Value) → are_of_one_kind vs ≡ true → is_there m ≡ true → kept_on e Null vs ≡ Ok m
+    → IsExtreme e m vs
+kept_is_extreme e vs m one there h = of_one_kind (IsExtreme e m vs) vs one (λ p lt kind all. extreme_of p lt kind e vs m all there h)

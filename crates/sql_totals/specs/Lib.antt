@@ -1,4 +1,5 @@
 pub mod Exact
+pub mod Extremes
 pub mod HeldValues
 pub mod Keeping
 pub mod Merging

@@ -1,12 +1,10 @@
 -- The totals of two parts of the rows, merged: counts and sums are added, and of two kept values the first part's stays, unless the second
 -- part's precedes it or the first part has none.
-use Rattle.std.specs.Prelude.{◌≡◌, ◌+◌, ◌^◌, ℕ, nat_lt, Bool, true, false, ◌||◌, List, Result, Ok, Err, IfOk, if◌then◌else◌}
-use Rattle.std.specs.List.{list_all}
+use Rattle.std.specs.Prelude.{◌≡◌, ◌+◌, ◌^◌, ℕ, nat_lt, Bool, true, List, Result, Ok, Err, IfOk, if◌then◌else◌}
 use Rattle.sql_timestamp.specs.declared.fault.ValueFault.TheVariants.{IntegerOverflow}
 use Rattle.sql_bound.specs.declared.tree.BoundAgg.{BoundAgg}
 use Rattle.sql_bound.specs.declared.tree.BoundAgg.TheVariants as agg
 use Rattle.sql_value.specs.declared.value.Value.{Value}
-use Rattle.sql_value.specs.declared.value.Value.TheVariants.{Missing, Null, Bool as Truth, Int, Dec, Text, Stamp, Node, Bad}
 use Rattle.sql_value.specs.declared.operation.Arith.TheVariants.{Add}
 use Rattle.sql_value.specs.Arithmetic.{calculated}
 use Rattle.sql_totals.specs.declared.fault.TotalFault.{TotalFault}
@@ -14,6 +12,7 @@ use Rattle.sql_totals.specs.declared.fault.TotalFault.TheVariants as refused
 use Rattle.sql_totals.specs.declared.keeping.Extreme.{Extreme}
 use Rattle.sql_totals.specs.declared.keeping.Extreme.TheVariants as extreme
 use Rattle.sql_totals.specs.Keeping.{kept_of_two}
+use Rattle.sql_totals.specs.Extremes.{are_of_one_kind}
 use Rattle.sql_totals.specs.Partials.{Partial, Counted, Summed, Averaged, Least, Greatest}
 use Rattle.sql_totals.specs.Stepped.{made, refusing, is_there}
 
@@ -38,28 +37,6 @@ merged (Averaged a m) (Averaged b n) = merged_averages (merged_sums a b) (merged
 merged (Least a) (Least b) = made Least (merged_kept extreme.Least a b)
 merged (Greatest a) (Greatest b) = made Greatest (merged_kept extreme.Greatest a b)
 merged t _ = Ok t
-
--- ---- values of one kind, whose order is total
-
-abbrev pub is_number : Value → Bool
-is_number (Int n) = true
-is_number (Dec d) = true
-is_number _ = false
-
-abbrev pub is_text : Value → Bool
-is_text (Text t) = true
-is_text _ = false
-
-abbrev pub is_timestamp : Value → Bool
-is_timestamp (Stamp s) = true
-is_timestamp _ = false
-
-abbrev pub is_truth : Value → Bool
-is_truth (Truth b) = true
-is_truth _ = false
-
-abbrev pub are_of_one_kind : List Value → Bool
-are_of_one_kind vs = list_all is_number vs || (list_all is_text vs || (list_all is_timestamp vs || list_all is_truth vs))
 
 -- MIN and MAX of the rows are told by those of the parts where their values are of one kind
 abbrev pub can_be_merged : BoundAgg → List Value → Bool

@@ -2,10 +2,13 @@
 ghost use Rattle.std.specs.Prelude.{◌≡◌, ◌↔◌, ◌++◌, List, length, true, Ok};
 ghost use Rattle.sql_bound.specs.declared.tree.Bound.{Bound};
 ghost use Rattle.sql_bound.specs.declared.tree.BoundAgg.{BoundAgg};
-ghost use Rattle.sql_bound.specs.declared.tree.BoundAgg.TheVariants.{Sum, Avg};
+ghost use Rattle.sql_bound.specs.declared.tree.BoundAgg.TheVariants.{Sum, Min, Max, Avg};
 ghost use Rattle.sql_value.specs.declared.value.Value.{Value};
-ghost use Rattle.sql_totals.specs.Partials.{Partial, Summed, Averaged, start};
+ghost use Rattle.sql_totals.specs.Partials.{Partial, Summed, Averaged, Least, Greatest, start};
 ghost use Rattle.sql_totals.specs.Exact.{numbers, exact_sum};
+ghost use Rattle.sql_totals.specs.declared.keeping.Extreme.TheVariants as extreme;
+ghost use Rattle.sql_totals.specs.Stepped.{is_there};
+ghost use Rattle.sql_totals.specs.Extremes.{are_of_one_kind, IsExtreme};
 ghost use Rattle.sql_totals.specs.Merging.{can_be_merged, merged, MergesTo};
 ghost use Rattle.sql_totals.specs.Overall.{and_on, added_all, added_to_one, each_by_itself, values, total_of};
 
@@ -48,4 +51,17 @@ pub fn totals_of_parts()
         → can_be_merged a (values a (first ++ second)) ≡ true
         → added_to_one a first (start a) ≡ Ok t → added_to_one a second (start a) ≡ Ok u
         → added_to_one a (first ++ second) (start a) ≡ Ok w → MergesTo a (merged t u) w }
+{}
+
+/// Where no row has a fault and the values are of one kind, all numbers, all texts, all timestamps or all truth values, what MIN or MAX
+/// keeps, if it is any, is one of them, and none precedes it.
+pub fn extremes_are_among_values()
+    ensures min { (e : Bound) (rows : List (List Value)) (k : Value)
+        → are_of_one_kind (values (Min e) rows) ≡ true → is_there k ≡ true
+        → added_to_one (Min e) rows (start (Min e)) ≡ Ok (Least k)
+        → IsExtreme extreme.Least k (values (Min e) rows) }
+    ensures max { (e : Bound) (rows : List (List Value)) (k : Value)
+        → are_of_one_kind (values (Max e) rows) ≡ true → is_there k ≡ true
+        → added_to_one (Max e) rows (start (Max e)) ≡ Ok (Greatest k)
+        → IsExtreme extreme.Greatest k (values (Max e) rows) }
 {}

@@ -13,6 +13,7 @@ mod totals;
 
 pub use crate::fault::TotalFault;
 pub use crate::laws::{
-    rows_in_parts, sums_are_exact, totals_of_parts, totals_of_rows, totals_of_values,
+    extremes_are_among_values, rows_in_parts, sums_are_exact, totals_of_parts, totals_of_rows,
+    totals_of_values,
 };
 pub use crate::totals::Totals;
