@@ -1,6 +1,7 @@
 //! A query of aggregates, and the records that it is asked of.
 ghost use Rattle.std.specs.Prelude.{[], ◌∷◌, IfOk};
 ghost use Rattle.sql_value.specs.declared.value.Value.{Value};
+ghost use Rattle.sql_eval.specs.Rows.{text_cell};
 ghost use Rattle.sql_lawful.specs.Lawful.{IsLawful};
 
 use crate::answers::{add, answer};
@@ -14,6 +15,8 @@ use sql_value::Value;
 use sqlite_items::{Boxed, Items};
 use std::alloc::Global;
 use std::test::Fail;
+use text_view::Text;
+use value_text::ValueText;
 
 /// A query, and records of one CSV field each: the record of totals in JSON, or the fault and its record's number, from 1.
 pub(crate) fn tell_fields(alloc: Global, row: &Row) -> Result<String, Fail> {
@@ -48,9 +51,7 @@ fn add_field(
     number: usize,
     totals: &mut Totals,
 ) -> Result<Option<String>, Fail> {
-    let mut fields = Vec::new(alloc);
-    fields.push(field)?;
-    add(alloc, aggs, &fields.as_slice(), number, totals)
+    add(alloc, aggs, &Field { text: field }, number, totals)
 }
 
 fn add_json(
@@ -64,6 +65,32 @@ fn add_json(
         return Err(Fail::new("no JSON"));
     };
     add(alloc, aggs, &Record { node }, number, totals)
+}
+
+/// A record of one field.
+#[derive(Drop)]
+struct Field<'r> {
+    text: &'r str,
+}
+
+impl<'r> Cells for Field<'r> {
+    ghost cells = { λ r. text_cell r.text ∷ [] };
+
+    fn width(&self) -> usize {
+        1
+    }
+
+    #[tactic(auto, using(crate::proofs::Cells::one_cell))]
+    fn cell(&self, i: usize) -> Value<'_> {
+        if i == 0 {
+            return Value::Text(ValueText::lent(Text::plain(self.text)));
+        }
+        Value::Missing
+    }
+
+    fn text(&self, _i: usize) -> Option<&str> {
+        None
+    }
 }
 
 /// A record of JSON, whose one cell is the value itself.
