@@ -1,12 +1,3 @@
-mod BoundLaws
 mod Contents
-mod EarlyLaws
-mod Framing
-mod JobLaws
-mod LineLaws
-mod LineStreams
 mod OneAsked
-mod SelectedLaws
-mod StreamLaws
-mod TilingLaws
-mod WindowSteps
+pub mod Unspent

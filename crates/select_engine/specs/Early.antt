@@ -2,9 +2,9 @@
 use Rattle.std.specs.Prelude.{◌≡◌, ℕ, List, [], length}
 use Rattle.scan_ranges.specs.Resolved.{resolved}
 use Rattle.select_request.specs.declared.request.SelectRequest.{SelectRequest}
-use Rattle.select_engine.specs.Selected.{first_of}
+use Rattle.record_stream.specs.Selected.{first_of}
+use Rattle.record_stream.specs.Replied.{early}
 use Rattle.select_engine.specs.Events.{answered}
-use Rattle.select_engine.specs.Jobs.{early}
 
 -- none of the records that a request processes ends before its range
 abbrev pub UnreadAreLate : Type 0

@@ -1,11 +1,8 @@
 pub mod Early
 pub mod Events
 pub mod Jobs
-pub mod LineTurns
 pub mod Prepared
 pub mod RecordYields
 pub mod Records
 pub mod Selected
-pub mod Streaming
 pub mod Tiling
-pub mod Turns

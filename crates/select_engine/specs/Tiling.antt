@@ -1,25 +1,12 @@
--- A tiling of an object: the ranges between ascending cuts, which have all its bytes together, each in one range.
-use Rattle.std.specs.Prelude.{◌≡◌, ℕ, ◌-◌, ◌<◌, Bool, false, List, [], ◌∷◌, length, map, sum_by, Option, None}
+-- The records of the tiles of an object, against those of the whole.
+use Rattle.std.specs.Prelude.{◌≡◌, ℕ, Bool, false, List, length, map, None}
 use Rattle.std.specs.List.{flat_map}
-use Rattle.scan_ranges.specs.Resolved.{resolved, cut_to}
-use Rattle.select_reply.specs.Yields.{Yielded, has_fault, output, total_len}
-use Rattle.select_reply.specs.Answers.{processed}
-use Rattle.select_reply.specs.Tilings.{payload_of, payloads_of}
+use Rattle.scan_ranges.specs.Resolved.{resolved}
+use Rattle.select_reply.specs.Yields.{Yielded, has_fault}
+use Rattle.record_stream.specs.Tiling.{Ascend, tiles, MakesTheWhole}
+use Rattle.select_engine.specs.Records.{delimiter}
+use Rattle.select_engine.specs.RecordYields.{lines}
 use Rattle.select_engine.specs.Selected.{yields}
-
--- the cuts ascend, each above a place
-abbrev pub Ascend : ℕ → List ℕ → Type 0
-Ascend place [] = Unit {0}
-Ascend place (cut ∷ cuts) = (place < cut) × Ascend cut cuts
-
--- the ranges from a place on: up to each cut, and last to the object's end
-abbrev pub ranges_from : ℕ → List ℕ → ℕ → List (Option (ℕ × ℕ))
-ranges_from first [] size = cut_to first (size - 1) size ∷ []
-ranges_from first (cut ∷ cuts) size = cut_to first (cut - 1) size ∷ ranges_from cut cuts size
-
--- the tiles of an object of so many bytes by these cuts
-abbrev pub tiles : List ℕ → ℕ → List (Option (ℕ × ℕ))
-tiles cuts size = ranges_from 0 cuts size
 
 -- what the records of each tile yield, tile by tile
 abbrev pub tile_yields : ℕ → List ℕ → List ℕ → List (List Yielded)
@@ -34,15 +21,8 @@ abbrev pub EachTilingJoins : Type 0
 EachTilingJoins =
     (longest : ℕ) (object cuts : List ℕ) → Ascend 0 cuts → flat_map (λ t. t) (tile_yields longest object cuts) ≡ whole_yields longest object
 
--- the replies over the tiles make the reply over the whole: the output that they carry, joined, and the counts, added
-pub record MakesTheWhole (progress : Bool) (longest : ℕ) (object cuts : List ℕ) : Type 0 where
-  pub payloads : payloads_of progress (tile_yields longest object cuts) ≡ payload_of progress (whole_yields longest object)
-  pub scanned : sum_by (λ t. total_len (processed None t)) (tile_yields longest object cuts) ≡ total_len (processed None (whole_yields longest object))
-  pub returned : sum_by (λ t. length (output (processed None t))) (tile_yields longest object cuts)
-      ≡ length (output (processed None (whole_yields longest object)))
-
--- and they do where no record of the whole has a code
+-- and the replies over the tiles make the reply over the whole where no record of the whole has a code
 abbrev pub EachTilingMakesTheWhole : Type 0
 EachTilingMakesTheWhole =
     (progress : Bool) (longest : ℕ) (object cuts : List ℕ) → Ascend 0 cuts → has_fault (whole_yields longest object) ≡ false
-    → MakesTheWhole progress longest object cuts
+    → MakesTheWhole progress lines longest delimiter object cuts

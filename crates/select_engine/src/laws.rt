@@ -3,8 +3,6 @@ ghost use Rattle.select_engine.specs.Early.{UnreadAreLate};
 ghost use Rattle.select_engine.specs.Prepared.{EachAsksOneThing};
 ghost use Rattle.select_engine.specs.Tiling.{EachTilingJoins, EachTilingMakesTheWhole};
 
-use line_window::adjacent_ranges_append;
-use select_reply::tiles_make_the_whole;
 use select_request::body_has_one_reading;
 
 /// A body asks one thing: one request that is built, or one refusal.
@@ -20,11 +18,12 @@ pub fn tiles_have_each_record_once()
     ensures join { EachTilingJoins }
     ensures whole { EachTilingMakesTheWhole }
 {
-    adjacent_ranges_append();
-    tiles_make_the_whole();
+    record_stream::tiles_have_each_record_once();
 }
 
 /// Where nothing was read of a range, none of its records is early.
 pub fn unread_records_are_late()
     ensures { UnreadAreLate }
-{}
+{
+    record_stream::unread_records_are_late();
+}

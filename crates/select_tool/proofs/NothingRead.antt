@@ -9,8 +9,8 @@ use Rattle.select_engine.specs.declared.asked.Asked.{Asked}
 use Rattle.select_engine.specs.declared.asked.Asked.TheVariants.{Refused, Asks}
 use Rattle.select_engine.specs.Early.{UnreadAreLate}
 use Rattle.select_engine.specs.Events.{answered}
-use Rattle.select_engine.specs.Jobs.{whole_frames, early}
-use Rattle.select_engine.specs.Selected.{first_of}
+use Rattle.record_stream.specs.Replied.{whole_frames, early}
+use Rattle.record_stream.specs.Selected.{first_of}
 use Rattle.select_tool.specs.Replies.{IsNotHeldBack, longest_record}
 
 no_frames : (wrap : List ℕ → List ℕ) (progress : Bool) → whole_frames wrap progress [] ≡ []

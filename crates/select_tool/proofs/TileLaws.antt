@@ -12,7 +12,7 @@ use Rattle.select_engine.specs.declared.asked.Asked.{Asked}
 use Rattle.select_engine.specs.declared.asked.Asked.TheVariants.{Refused, Asks}
 use Rattle.select_reply.specs.declared.code.Code.TheVariants.{UnsupportedScanRangeInput}
 use Rattle.select_engine.specs.Prepared.{Prepares, is_built}
-use Rattle.select_engine.specs.Tiling.{Ascend}
+use Rattle.record_stream.specs.Tiling.{Ascend}
 use Rattle.select_tool.specs.declared.trouble.Trouble.{Trouble}
 use Rattle.select_tool.specs.Replies.{IfTold, most_read_of}
 use Rattle.select_tool.specs.Tiles.{with_range, tile_of, tile_ranges, tiles_of, most_read_of_all, WritesReplies, TookOnceATile}

@@ -16,7 +16,7 @@ use Rattle.select_request.specs.declared.request.ScanRange.{ScanRange}
 use Rattle.select_reply.specs.declared.outcome.Outcome.{Outcome}
 use Rattle.select_request.specs.declared.request.ScanRange.TheVariants.{Between, From}
 use Rattle.select_engine.specs.declared.asked.Asked.{Asked}
-use Rattle.select_engine.specs.Tiling.{Ascend}
+use Rattle.record_stream.specs.Tiling.{Ascend}
 use Rattle.select_tool.specs.Replies.{reply_frames, reply_outcome}
 use Rattle.select_tool.specs.Tiles.{with_range, tile_of, tile_ranges, replies_frames, has_error, any_error, TiledSoFar, WritesSome}
 

@@ -19,10 +19,12 @@ use Rattle.select_reply.specs.declared.outcome.Outcome.{Outcome}
 use Rattle.select_engine.specs.declared.asked.Asked.{Asked}
 use Rattle.select_reply.specs.Replies.{ending_of}
 use Rattle.select_reply.specs.Tilings.{joined, payload_of as carried_by, payloads_of as carried_by_all, TilesJoin, EachTilesJoin, TilesFail, EachTilesFail}
-use Rattle.select_engine.specs.Records.{Record, records}
-use Rattle.select_engine.specs.RecordYields.{yielded_of}
-use Rattle.select_engine.specs.Selected.{lies_in, selected, yields}
-use Rattle.select_engine.specs.Tiling.{Ascend, ranges_from, tile_yields, whole_yields, EachTilingJoins}
+use Rattle.select_engine.specs.Records.{delimiter}
+use Rattle.select_engine.specs.RecordYields.{lines}
+use Rattle.record_stream.specs.Selected.{lies_in, all_yields, yields as range_yields}
+use Rattle.select_engine.specs.Selected.{yields}
+use Rattle.record_stream.specs.Tiling.{Ascend, ranges_from}
+use Rattle.select_engine.specs.Tiling.{tile_yields, whole_yields, EachTilingJoins}
 use Rattle.select_tool.specs.Replies.{longest_record, reply_outcome}
 use Rattle.select_tool.specs.Tiles.{tile_ranges, tile_of, has_error, any_error}
 use Rattle.select_tool.specs.Whole.{places_of, yields_in, payload_of, payloads_of, counts_of, summed, whole_of, JoinsToDone, JoinsToError, JoinsTo, MakesWhole, EachTilingMakesWhole}
@@ -55,16 +57,16 @@ has_first test [] starts some = absurd cc
 has_first test (y ∷ ys) starts some = first_on test y.start y.len y.gives ys starts.0 some (has_first test ys starts.1)
 
 -- a filter keeps records that start where its test passes
-starts_in : (test : ℕ → Bool) (rs : List Record) → StartsIn test (map yielded_of (filter (λ r. test r.start) rs))
+starts_in : (test : ℕ → Bool) (ys : List Yielded) → StartsIn test (filter (λ y. test y.start) ys)
 starts_in test [] = tt
-starts_in test (r ∷ rs) =
-    let kept = filter (λ (s : Record). test s.start) rs in
-    let P : Bool → Type 0 = λ b. test r.start ≡ b → StartsIn test (map yielded_of (if b then r ∷ kept else kept)) in
-    (elim (test r.start) as P [ true ↦ λ yes. (yes, starts_in test rs) | false ↦ λ no. starts_in test rs ]) refl
+starts_in test (y ∷ ys) =
+    let kept = filter (λ (z : Yielded). test z.start) ys in
+    let P : Bool → Type 0 = λ b. test y.start ≡ b → StartsIn test (if b then y ∷ kept else kept) in
+    (elim (test y.start) as P [ true ↦ λ yes. (yes, starts_in test ys) | false ↦ λ no. starts_in test ys ]) refl
 
 tile_starts : (longest : ℕ) (object : List ℕ) (range : Option (ℕ × ℕ)) → StartsIn (lies_in range) (yields longest object range)
-unfolding yields
-tile_starts longest object range = starts_in (lies_in range) (records longest object)
+unfolding range_yields
+tile_starts longest object range = starts_in (lies_in range) (all_yields lines longest delimiter object)
 
 -- ---- lists of tiles
 

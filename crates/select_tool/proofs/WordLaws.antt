@@ -6,7 +6,7 @@ use Rattle.std.specs.String.{string_bytes}
 use Rattle.std.specs.declared.alloc.Global.{Global}
 use Rattle.std.proofs.Math.ListN.{drop_of_length-le}
 use Rattle.std.proofs.lemmas.Bool.{ltb-true}
-use Rattle.select_engine.specs.Tiling.{Ascend}
+use Rattle.record_stream.specs.Tiling.{Ascend}
 use Rattle.select_tool.specs.Words.{above, number_of, cuts_above, cuts_of, is_few}
 
 -- ---- cuts ascend

@@ -17,8 +17,8 @@ use Rattle.select_reply.specs.Events.{wrapped_frames}
 use Rattle.select_reply.specs.Replies.{outcome_of}
 use Rattle.scan_ranges.specs.Resolved.{resolved}
 use Rattle.select_engine.specs.Events.{answered, events}
-use Rattle.select_engine.specs.Selected.{first_of, most_taken}
-use Rattle.select_engine.specs.Jobs.{WroteEarly}
+use Rattle.record_stream.specs.Selected.{first_of, most_taken}
+use Rattle.record_stream.specs.Replied.{WroteEarly}
 use Rattle.select_tool.specs.Statuses.{line_of}
 
 -- the record limit of the program, in bytes

@@ -16,8 +16,9 @@ use Rattle.select_engine.specs.declared.asked.Asked.{Asked}
 use Rattle.select_engine.specs.declared.asked.Asked.TheVariants.{Refused, Asks}
 use Rattle.select_engine.specs.Events.{events}
 use Rattle.select_engine.specs.Prepared.{Prepares}
-use Rattle.select_engine.specs.Selected.{lies_in, yields}
-use Rattle.select_engine.specs.Tiling.{Ascend}
+use Rattle.record_stream.specs.Selected.{lies_in}
+use Rattle.select_engine.specs.Selected.{yields}
+use Rattle.record_stream.specs.Tiling.{Ascend}
 use Rattle.select_tool.specs.Replies.{longest_record, reply_outcome}
 use Rattle.select_tool.specs.Tiles.{with_range, tile_ranges, tile_of, tiles_of, replies_frames, any_error}
 

@@ -4,7 +4,7 @@ use Rattle.std.specs.Option.{option_map}
 use Rattle.std.specs.String.{string_bytes}
 use Rattle.std.specs.declared.alloc.Global.{Global}
 use Rattle.select_request.specs.Values.{whole_number_of}
-use Rattle.select_engine.specs.Tiling.{Ascend}
+use Rattle.record_stream.specs.Tiling.{Ascend}
 use Rattle.select_tool.specs.declared.listing.Listing.{Listing}
 use Rattle.select_tool.specs.declared.listing.Listing.TheVariants.{Lines, Payloads}
 use Rattle.select_tool.specs.declared.words.Command.{Command}

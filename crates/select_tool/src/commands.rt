@@ -2,7 +2,7 @@
 ghost use Rattle.std.specs.Prelude.{◌≡◌, ◌≢◌, ◌⊎◌, ◌+◌, ◌-◌, ◌<◌, ◌≤◌, Some, IfSome};
 ghost use Rattle.std.specs.Io.KnownBytes.{Keeps};
 ghost use Rattle.select_ports.specs.Causes.{Rose};
-ghost use Rattle.select_engine.specs.Tiling.{Ascend};
+ghost use Rattle.record_stream.specs.Tiling.{Ascend};
 ghost use Rattle.select_tool.specs.Commands.{Answers};
 ghost use Rattle.select_tool.specs.Words.{selects, tiles, lists, ordered};
 ghost use Rattle.select_tool.specs.Input.{IsUnread, most_of_body, most_of_replies, most_read};

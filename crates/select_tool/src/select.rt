@@ -8,7 +8,7 @@ ghost use Rattle.select_engine.specs.Prepared.{IsBuiltIfAsked, Prepares, is_buil
 ghost use Rattle.select_reply.specs.Events.{error_event};
 ghost use Rattle.select_engine.specs.declared.asked.Asked.TheVariants.{Asks};
 ghost use Rattle.select_engine.specs.Events.{events};
-ghost use Rattle.select_engine.specs.Jobs.{WritesReply};
+ghost use Rattle.record_stream.specs.Replied.{WritesReply};
 ghost use Rattle.select_tool.specs.Input.{IsUnread, most_of_body};
 ghost use Rattle.select_tool.specs.Replies.{IfTold, Replied, IsCutShort, IsLacking, IsMissingOrFault, IsNotHeldBack, NotHeldBack};
 ghost use Rattle.select_tool.specs.Replies.{Misses, CauseOf, TookNear, TookOnce, reply_outcome, longest_record, most_read_of};

@@ -1,8 +1,9 @@
-use Rattle.select_engine.proofs.TilingLaws.{each_tiling_joins, each_tiling_makes_the_whole}
+use Rattle.select_engine.specs.Records.{delimiter}
+use Rattle.select_engine.specs.RecordYields.{lines}
 use Rattle.select_engine.proofs.laws.tiles_have_each_record_once.Goals as goal
 
 pub returns-clause-join : goal.returns-clause-join
-returns-clause-join c = each_tiling_joins c.adjacent_ranges_append.ensures.cuts
+returns-clause-join c = λ longest object cuts up. c.tiles_have_each_record_once.ensures.join lines longest delimiter object cuts up
 
 pub returns-clause-whole : goal.returns-clause-whole
-returns-clause-whole c = each_tiling_makes_the_whole c.adjacent_ranges_append.ensures.cuts c.tiles_make_the_whole.ensures.join
+returns-clause-whole c = λ progress longest object cuts up fine. c.tiles_have_each_record_once.ensures.whole progress lines longest delimiter object cuts up fine

@@ -1,6 +1,6 @@
 use Rattle.std.proofs.Common.{◌≡◌, ℕ, ◌+◌, ◌≤◌, List, drop, map}
 use Rattle.line_window.specs.Sliding.{Tells}
-use Rattle.select_engine.specs.Tiling.{Ascend}
+use Rattle.record_stream.specs.Tiling.{Ascend}
 use Rattle.select_tool.specs.Tiles.{TiledSoFar, most_read_of_all, tile_of, tile_ranges, with_range}
 use Rattle.select_tool.proofs.tile.write_tiles.Given as goal
 
