@@ -61,6 +61,7 @@ impl<'r> Cells for Record<'r> {
         1
     }
 
+    #[tactic(auto, using(crate::proofs::Cells::one_cell))]
     fn cell(&self, i: usize) -> Value<'_> {
         if i == 0 {
             return Value::Node(self.node.again());
