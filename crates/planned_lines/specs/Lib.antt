@@ -1,0 +1,2 @@
+pub mod LineYields
+pub mod Turning

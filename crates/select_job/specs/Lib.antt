@@ -1,0 +1,4 @@
+pub mod Built
+pub mod Codes
+pub mod Jobs
+pub mod Prepared
