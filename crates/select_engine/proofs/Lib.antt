@@ -1,3 +1,2 @@
-mod Contents
-mod OneAsked
-pub mod Unspent
+pub mod Headers
+pub mod Undue
