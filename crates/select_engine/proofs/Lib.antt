@@ -1,2 +1,3 @@
-pub mod Headers
-pub mod Undue
+mod Contents
+mod OneAsked
+pub mod Unspent

@@ -1,6 +1,8 @@
-pub mod Answered
-pub mod Codes
-pub mod Columns
 pub mod Early
+pub mod Events
 pub mod Jobs
-pub mod Stops
+pub mod Prepared
+pub mod RecordYields
+pub mod Records
+pub mod Selected
+pub mod Tiling

@@ -1,5 +1,4 @@
 //! Why a reply isn't written whole.
-use select_reply::Code;
 
 /// Why a reply wasn't written whole.
 #[derive(Clone, Copy, Debug, PartialEq, Eq)]
@@ -9,14 +8,5 @@ pub enum EngineError {
     /// A write of a frame failed.
     WriteFault,
     /// Memory was refused, before anything was written.
-    OutOfMemory,
-}
-
-/// Why no record is answered.
-#[derive(Clone, Copy)]
-pub(crate) enum Stop {
-    /// The reply is one Error event with this code, at byte 0.
-    Code(Code),
-    StoreFault,
     OutOfMemory,
 }

@@ -6,62 +6,68 @@ use Rattle.std.proofs.lemmas.List.Sums.{sum_by-cons}
 use Rattle.select_ports.specs.Stored.{Objects, Opened, OpensName}
 use Rattle.line_window.specs.Sliding.{Tells}
 use Rattle.select_request.specs.Values.{allows_range}
-use Rattle.select_engine.specs.declared.job.Job.{Job}
+use Rattle.select_request.specs.declared.request.SelectRequest.{SelectRequest}
 use Rattle.select_request.specs.declared.request.ScanRange.{ScanRange}
 use Rattle.select_engine.specs.declared.asked.Asked.{Asked}
 use Rattle.select_engine.specs.declared.asked.Asked.TheVariants.{Refused, Asks}
 use Rattle.select_reply.specs.declared.code.Code.TheVariants.{UnsupportedScanRangeInput}
-use Rattle.select_engine.specs.Prepared.{Prepares}
+use Rattle.select_engine.specs.Prepared.{Prepares, is_built}
 use Rattle.record_stream.specs.Tiling.{Ascend}
 use Rattle.select_tool.specs.declared.trouble.Trouble.{Trouble}
 use Rattle.select_tool.specs.Replies.{IfTold, most_read_of}
-use Rattle.select_tool.specs.Tiles.{tile_of, tile_ranges, tiles_of, most_read_of_all, WritesReplies, TookTwiceATile}
+use Rattle.select_tool.specs.Tiles.{with_range, tile_of, tile_ranges, tiles_of, most_read_of_all, WritesReplies, TookOnceATile}
 use Rattle.select_tool.specs.Whole.{TilesMakeWhole, EachTilingMakesWhole, Tiled}
 
 -- ---- what is read
 
-pub most-cons : (size : ℕ) (job : Job) (range : ScanRange) (rest : List ScanRange)
-    → most_read_of_all size (map (tile_of job) (range ∷ rest))
-    ≡ min (2 * size) (most_read_of size (tile_of job range)) + most_read_of_all size (map (tile_of job) rest)
-most-cons size job range rest = sum_by-cons (λ (asked : Asked). min (2 * size) (most_read_of size asked)) (tile_of job range) (map (tile_of job) rest)
+pub most-cons : (size : ℕ) (request : SelectRequest) (range : ScanRange) (rest : List ScanRange)
+    → most_read_of_all size (map (tile_of request) (range ∷ rest))
+    ≡ min size (most_read_of size (tile_of request range)) + most_read_of_all size (map (tile_of request) rest)
+most-cons size request range rest = sum_by-cons (λ (asked : Asked). min size (most_read_of size asked)) (tile_of request range) (map (tile_of request) rest)
 
-pub read_on : (size : ℕ) (job : Job) (range : ScanRange) (rest : List ScanRange) (before now upto : ℕ)
-    → now ≤ before + most_read_of size (tile_of job range) → now ≤ before + 2 * size
-    → before + most_read_of_all size (map (tile_of job) (range ∷ rest)) ≤ upto → now + most_read_of_all size (map (tile_of job) rest) ≤ upto
-read_on size job range rest before now upto near once so_far = omega (arith, near, once, so_far, most-cons size job range rest)
+pub read_on : (size : ℕ) (request : SelectRequest) (range : ScanRange) (rest : List ScanRange) (before now upto : ℕ)
+    → now ≤ before + most_read_of size (tile_of request range) → now ≤ before + size
+    → before + most_read_of_all size (map (tile_of request) (range ∷ rest)) ≤ upto → now + most_read_of_all size (map (tile_of request) rest) ≤ upto
+read_on size request range rest before now upto near once so_far = omega (arith, near, once, so_far, most-cons size request range rest)
 
-most_within : (size : ℕ) (asks : List Asked) → most_read_of_all size asks ≤ length asks * (2 * size)
+most_within : (size : ℕ) (asks : List Asked) → most_read_of_all size asks ≤ length asks * size
 most_within size [] = omega arith
 most_within size (asked ∷ asks) =
-    let here = sum_by-cons (λ (a : Asked). min (2 * size) (most_read_of size a)) asked asks in
+    let here = sum_by-cons (λ (a : Asked). min size (most_read_of size a)) asked asks in
     let rest = most_within size asks in
-    let grown : suc (length asks) * (2 * size) ≡ length asks * (2 * size) + 2 * size = suc-mul (length asks) (2 * size) in
+    let grown : suc (length asks) * size ≡ length asks * size + size = suc-mul (length asks) size in
     omega (arith, here, rest, grown)
 
-ranges_many : (job : Job) (first : ℕ) (cuts : List ℕ) → length (map (tile_of job) (tile_ranges first cuts)) ≡ length cuts + 1
-ranges_many job first [] = omega arith
-ranges_many job first (cut ∷ cuts) =
-    let rest = ranges_many job cut cuts in
-    let grown : suc (length (map (tile_of job) (tile_ranges cut cuts))) ≡ suc (length cuts) + 1 = omega (arith, rest) in
+ranges_many : (request : SelectRequest) (first : ℕ) (cuts : List ℕ) → length (map (tile_of request) (tile_ranges first cuts)) ≡ length cuts + 1
+ranges_many request first [] = omega arith
+ranges_many request first (cut ∷ cuts) =
+    let rest = ranges_many request cut cuts in
+    let grown : suc (length (map (tile_of request) (tile_ranges cut cuts))) ≡ suc (length cuts) + 1 = omega (arith, rest) in
     grown
 
-one_within : (size : ℕ) (asked : Asked) (cuts : List ℕ) → most_read_of_all size (asked ∷ []) ≤ (length cuts + 1) * (2 * size)
+one_within : (size : ℕ) (asked : Asked) (cuts : List ℕ) → most_read_of_all size (asked ∷ []) ≤ (length cuts + 1) * size
 one_within size asked cuts =
     let one = most_within size (asked ∷ []) in
-    let grown : (length cuts + 1) * (2 * size) ≡ length cuts * (2 * size) + 2 * size = ap (λ n. n * (2 * size)) (add-one (length cuts)) ∙ suc-mul (length cuts) (2 * size) in
-    let single : 1 * (2 * size) ≡ 2 * size = omega arith in
+    let grown : (length cuts + 1) * size ≡ length cuts * size + size = ap (λ n. n * size) (add-one (length cuts)) ∙ suc-mul (length cuts) size in
+    let single : 1 * size ≡ size = omega arith in
     omega (arith, one, grown, single)
 
 -- no byte is read twice for one tile
-pub most_of_tiles : (size : ℕ) (asked : Asked) (cuts : List ℕ) → most_read_of_all size (tiles_of asked cuts) ≤ (length cuts + 1) * (2 * size)
+pub most_of_tiles : (size : ℕ) (asked : Asked) (cuts : List ℕ) → most_read_of_all size (tiles_of asked cuts) ≤ (length cuts + 1) * size
 most_of_tiles size (Refused code at) cuts = one_within size (Refused code at) cuts
-most_of_tiles size (Asks job) cuts =
-    let P : Bool → Type 0 = λ b. most_read_of_all size (if b then map (tile_of job) (tile_ranges 0 cuts) else Refused UnsupportedScanRangeInput 0 ∷ []) ≤ (length cuts + 1) * (2 * size) in
-    elim (allows_range job.request.input) as P [
-      | true ↦ subst (λ n. most_read_of_all size (map (tile_of job) (tile_ranges 0 cuts)) ≤ n * (2 * size)) (ranges_many job 0 cuts)
-          (most_within size (map (tile_of job) (tile_ranges 0 cuts)))
+most_of_tiles size (Asks request) cuts =
+    let P : Bool → Type 0 = λ b. most_read_of_all size (if b then map (tile_of request) (tile_ranges 0 cuts) else Refused UnsupportedScanRangeInput 0 ∷ []) ≤ (length cuts + 1) * size in
+    elim (allows_range request.input) as P [
+      | true ↦ subst (λ n. most_read_of_all size (map (tile_of request) (tile_ranges 0 cuts)) ≤ n * size) (ranges_many request 0 cuts)
+          (most_within size (map (tile_of request) (tile_ranges 0 cuts)))
       | false ↦ one_within size (Refused UnsupportedScanRangeInput 0) cuts
     ]
+
+-- ---- a request with another range
+
+pub built_stays : (request : SelectRequest) (range : Option ScanRange) → is_built (with_range request range) ≡ is_built request
+unfolding is_built
+built_stays request range = refl
 
 -- ---- of the object that was opened, and of the body that was read
 
@@ -83,7 +89,7 @@ prepared left asked body read is = subst (λ (o : Option (List ℕ)). IfSome o (
 
 pub tiles_make : EachTilingMakesWhole → (object cuts : List ℕ) (asked : Asked) → Ascend 0 cuts → TilesMakeWhole object cuts asked
 tiles_make law object cuts (Refused code at) up = tt
-tiles_make law object cuts (Asks job) up = λ allowed. law object job cuts up
+tiles_make law object cuts (Asks request) up = λ allowed. law object request cuts up
 
 module _ (held : Option Objects) (left : Option (List ℕ)) (name : List ℕ) (size : ℕ) (opened : Opened) (cuts : List ℕ) (asked : Asked) (before now : Option (List ℕ))
     (opens : OpensName held name size opened) (read : IfSome left (λ body. Prepares body asked)) where
@@ -100,12 +106,12 @@ module _ (held : Option Objects) (left : Option (List ℕ)) (name : List ℕ) (s
   all_tiled law up (Err trouble) written = tt
 
 pub once_a_tile : (size : ℕ) (told : Option (List ℕ)) (opened : Opened) (cuts : List ℕ) (asked : Asked) (before now : ℕ)
-    → opened ≡ Some (size, told) → now ≤ before + most_read_of_all size (tiles_of asked cuts) → TookTwiceATile opened cuts before now
+    → opened ≡ Some (size, told) → now ≤ before + most_read_of_all size (tiles_of asked cuts) → TookOnceATile opened cuts before now
 once_a_tile size told opened cuts asked before now is near =
-    subst (λ (o : Opened). TookTwiceATile o cuts before now) (sym is) (omega (arith, near, most_of_tiles size asked cuts))
+    subst (λ (o : Opened). TookOnceATile o cuts before now) (sym is) (omega (arith, near, most_of_tiles size asked cuts))
 
 pub once_opened : (held : Option Objects) (name : List ℕ) (size : ℕ) (opened : Opened) (cuts : List ℕ) (asked : Asked) (before first now : ℕ)
-    → OpensName held name size opened → first ≡ before → now ≤ first + most_read_of_all size (tiles_of asked cuts) → TookTwiceATile opened cuts before now
+    → OpensName held name size opened → first ≡ before → now ≤ first + most_read_of_all size (tiles_of asked cuts) → TookOnceATile opened cuts before now
 once_opened None name size opened cuts asked before first now opens unread near =
     once_a_tile size None opened cuts asked before now opens (omega (arith, unread, near))
 once_opened (Some objects) name size opened cuts asked before first now opens unread near =

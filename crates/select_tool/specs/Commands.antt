@@ -6,8 +6,8 @@ use Rattle.select_tool.specs.declared.listing.Listing.{Listing}
 use Rattle.select_tool.specs.Words.{Order, selects, tiles, lists}
 use Rattle.select_tool.specs.Seen.{Outside}
 use Rattle.select_tool.specs.Input.{IsUnread}
-use Rattle.select_tool.specs.Replies.{IfTold, IsReplied, IsCutShort, IsHeld, IsLacking, NotHeldBack, Misses, TookNear, TookTwice}
-use Rattle.select_tool.specs.Tiles.{IsTiledShort, IsTiledToReply, TookNearTiles, TookTwiceATile}
+use Rattle.select_tool.specs.Replies.{IfTold, IsReplied, IsCutShort, IsHeld, IsLacking, NotHeldBack, Misses, TookNear, TookOnce}
+use Rattle.select_tool.specs.Tiles.{IsTiledShort, IsTiledToReply, TookNearTiles, TookOnceATile}
 use Rattle.select_tool.specs.Whole.{IsTiled}
 use Rattle.select_tool.specs.Listings.{IsAnswered, IsListedInPart, IsRefused, FailsInput}
 
@@ -52,8 +52,8 @@ pub record AnswersSelect (name : List ℕ) (status : ℕ) (before now : Outside)
       (λ object body. NotHeldBack object body (now.store.taken - before.store.taken) before.out.written now.out.written)
   -- where memory was refused, nothing was written
   pub seven : status ≡ 7 → Keeps before.out.written now.out.written
-  -- no byte of the object is read more often than twice, and little more than the range that the body asks for
-  pub taken : TookTwice now.store.current before.store.taken now.store.taken
+  -- no byte of the object is read twice, and little more than the range that the body asks for
+  pub taken : TookOnce now.store.current before.store.taken now.store.taken
   pub near : IfSome before.input.left (λ body. TookNear now.store.current body before.store.taken now.store.taken)
 
 -- `tile NAME CUT..`
@@ -69,8 +69,8 @@ pub record AnswersTile (name cuts : List ℕ) (status : ℕ) (before now : Outsi
   -- where memory was refused, nothing was written, or some of the replies, each whole
   pub seven : status ≡ 7 → IfTold before.store.held before.input.left name
       (λ object body. IsTiledToReply object body cuts before.out.written now.out.written)
-  -- no byte of the object is read more often than twice for one tile, and little more than each tile's range
-  pub taken : TookTwiceATile now.store.current cuts before.store.taken now.store.taken
+  -- no byte of the object is read twice for one tile, and little more than each tile's range
+  pub taken : TookOnceATile now.store.current cuts before.store.taken now.store.taken
   pub near : IfSome before.input.left (λ body. TookNearTiles now.store.current body cuts before.store.taken now.store.taken)
 
 -- `show` and `records`

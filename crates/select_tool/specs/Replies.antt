@@ -1,5 +1,5 @@
 -- What a command answers to a body about an object.
-use Rattle.std.specs.Prelude.{◌≡◌, ◌⊎◌, ℕ, ◌+◌, ◌*◌, ◌<◌, ◌≤◌, List, [], length, Option, None, Some, IfSome, IsSome, ◌==◌, if◌then◌else◌, String}
+use Rattle.std.specs.Prelude.{◌≡◌, ◌⊎◌, ℕ, ◌+◌, ◌<◌, ◌≤◌, List, [], length, Option, None, Some, IfSome, IsSome, ◌==◌, if◌then◌else◌, String}
 use Rattle.std.specs.declared.alloc.Global.{Global}
 use Rattle.std.specs.Io.KnownBytes.{Appends, Keeps}
 use Rattle.select_ports.specs.Causes.{Rose, RoseBy}
@@ -14,10 +14,11 @@ use Rattle.select_tool.specs.declared.trouble.Trouble.TheVariants.{BadWords, NoS
 use Rattle.select_tool.specs.Words.{Order, selects, tiles, lists}
 use Rattle.select_engine.specs.Prepared.{Prepares}
 use Rattle.select_reply.specs.Events.{wrapped_frames}
+use Rattle.select_reply.specs.Replies.{outcome_of}
 use Rattle.scan_ranges.specs.Resolved.{resolved}
-use Rattle.select_engine.specs.Answered.{answered, ended, events}
-use Rattle.record_stream.specs.Selected.{first_of}
-use Rattle.select_engine.specs.Jobs.{IsEarly, most_taken}
+use Rattle.select_engine.specs.Events.{answered, events}
+use Rattle.record_stream.specs.Selected.{first_of, most_taken}
+use Rattle.record_stream.specs.Replied.{WroteEarly}
 use Rattle.select_tool.specs.Statuses.{line_of}
 
 -- the record limit of the program, in bytes
@@ -31,7 +32,7 @@ reply_frames wrap object asked = wrapped_frames wrap (events longest_record obje
 -- how the reply ends: a refused body with its Error event, and a query as it is answered
 abbrev pub reply_outcome : List ℕ → Asked → Outcome
 reply_outcome object (Refused code at) = Faulted code at
-reply_outcome object (Asks job) = ended (answered longest_record object job.request job.query)
+reply_outcome object (Asks request) = outcome_of (answered longest_record object request)
 
 -- the reply to a body about an object, whole: the frames of its events, and how it ends
 pub record Replied (object body : List ℕ) (outcome : Outcome) (before now : Option (List ℕ)) : Type 0 where
@@ -50,9 +51,8 @@ pub record RepliedInPart (object body : List ℕ) (before now : Option (List ℕ
 -- early records' output reaches have been written
 abbrev pub IsNotHeldBack : (List ℕ → List ℕ) → List ℕ → ℕ → Asked → Option (List ℕ) → Option (List ℕ) → Type 0
 IsNotHeldBack wrap object taken (Refused code at) before now = Unit {0}
-IsNotHeldBack wrap object taken (Asks job) before now =
-    IsEarly wrap job.request.progress longest_record (first_of (resolved job.request.range (length object)) + taken)
-    (answered longest_record object job.request job.query) before now
+IsNotHeldBack wrap object taken (Asks request) before now =
+    WroteEarly wrap request.progress longest_record (first_of (resolved request.range (length object)) + taken) (answered longest_record object request) before now
 
 -- that of what the body asks
 abbrev pub NotHeldBack : List ℕ → List ℕ → ℕ → Option (List ℕ) → Option (List ℕ) → Type 0
@@ -61,7 +61,7 @@ NotHeldBack object body taken before now = (asked : Asked) → Prepares body ask
 -- the most bytes that are read of an object of so many bytes: little more than the range that is asked for
 abbrev pub most_read_of : ℕ → Asked → ℕ
 most_read_of size (Refused code at) = 0
-most_read_of size (Asks job) = most_taken longest_record (resolved job.request.range size)
+most_read_of size (Asks request) = most_taken longest_record (resolved request.range size)
 
 -- no more was read of the open object than what the body asks needs
 abbrev pub TookNear : Opened → List ℕ → ℕ → ℕ → Type 0
@@ -93,10 +93,10 @@ pub record Misses (held : Option Objects) (name : List ℕ) (current : Opened) (
   pub none_open : current ≡ None
   pub counted : RoseBy 1 absent_before absent_now
 
--- no byte of the open object was read more often than twice; with none open nothing was read
-abbrev pub TookTwice : Opened → ℕ → ℕ → Type 0
-TookTwice None before now = now ≡ before
-TookTwice (Some object) before now = now ≤ before + 2 * object.0
+-- no byte of the open object was read twice; with none open nothing was read
+abbrev pub TookOnce : Opened → ℕ → ℕ → Type 0
+TookOnce None before now = now ≡ before
+TookOnce (Some object) before now = now ≤ before + object.0
 
 -- the cause of each trouble of a command whose words fit
 abbrev pub CauseOf : Trouble → Type 0 → Type 0 → Type 0 → Type 0 → Type 0 → Type 0 → Type 0

@@ -7,9 +7,9 @@ ghost use Rattle.select_tool.specs.Commands.{Answers};
 ghost use Rattle.select_tool.specs.Words.{selects, tiles, lists, ordered};
 ghost use Rattle.select_tool.specs.Input.{IsUnread, most_of_body, most_of_replies, most_read};
 ghost use Rattle.select_tool.specs.Replies.{IfTold, IsReplied, IsCutShort, IsHeld, IsLacking, NotHeldBack, Misses, TookNear};
-ghost use Rattle.select_tool.specs.Replies.{TookTwice, IsStatusOf, line_of_status, status_of_outcome, WritesUnlessFaulty};
+ghost use Rattle.select_tool.specs.Replies.{TookOnce, IsStatusOf, line_of_status, status_of_outcome, WritesUnlessFaulty};
 ghost use Rattle.select_tool.specs.Statuses.{status_of, line_of};
-ghost use Rattle.select_tool.specs.Tiles.{IsTiledShort, IsTiledToReply, TookNearTiles, TookTwiceATile};
+ghost use Rattle.select_tool.specs.Tiles.{IsTiledShort, IsTiledToReply, TookNearTiles, TookOnceATile};
 ghost use Rattle.select_tool.specs.Whole.{IsTiled};
 ghost use Rattle.select_tool.specs.Listings.{IsAnswered, IsListedInPart, IsRefused, FailsInput};
 
@@ -139,7 +139,7 @@ fn run_select<S: Store, I: Source, O: Sink, E: Sink>(
         → (result < 2) ⊎ (result ≡ 7) }
     ensures line { WritesUnlessFaulty (E.faults err.old) (E.faults err.new) (E.written err.old) (E.written err.new)
         (line_of_status (Some (selects name.now)) result) }
-    ensures taken { TookTwice (S.current store.new) (S.taken store.old) (S.taken store.new) }
+    ensures taken { TookOnce (S.current store.new) (S.taken store.old) (S.taken store.new) }
     ensures near { IfSome (I.left input.old) (λ body. TookNear (S.current store.new) body (S.taken store.old) (S.taken store.new)) }
     ensures input_taken { I.taken input.new ≤ I.taken input.old + most_of_body }
     ensures held { S.held store.new ≡ S.held store.old }
@@ -183,7 +183,7 @@ fn run_tile<S: Store, I: Source, O: Sink, E: Sink>(
         → (result < 2) ⊎ (result ≡ 7) }
     ensures line { WritesUnlessFaulty (E.faults err.old) (E.faults err.new) (E.written err.old) (E.written err.new)
         (line_of_status (Some (tiles name.now cuts.now)) result) }
-    ensures taken { TookTwiceATile (S.current store.new) cuts.now (S.taken store.old) (S.taken store.new) }
+    ensures taken { TookOnceATile (S.current store.new) cuts.now (S.taken store.old) (S.taken store.new) }
     ensures near { IfSome (I.left input.old)
         (λ body. TookNearTiles (S.current store.new) body cuts.now (S.taken store.old) (S.taken store.new)) }
     ensures input_taken { I.taken input.new ≤ I.taken input.old + most_of_body }

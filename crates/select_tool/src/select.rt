@@ -1,25 +1,26 @@
 //! The command `select NAME`: the reply to the body on the input, about the object of that name.
-ghost use Rattle.std.specs.Prelude.{◌≡◌, ◌+◌, ◌-◌, ◌*◌, ◌≤◌, ℕ, List, None, ⊤, [], ◌∷◌, Err, IfOk, IfErr, IfSome, IsErrAnd};
+ghost use Rattle.std.specs.Prelude.{◌≡◌, ◌+◌, ◌-◌, ◌≤◌, true, ℕ, List, None, ⊤, [], ◌∷◌, Err, IfOk, IfErr, IfSome, IsErrAnd};
 ghost use Rattle.std.specs.Io.KnownBytes.{Keeps};
 ghost use Rattle.select_ports.specs.Causes.{Rose};
 ghost use Rattle.select_ports.specs.Stored.{IsOpen, OpensName};
 ghost use Rattle.line_window.specs.Sliding.{Tells};
-ghost use Rattle.select_engine.specs.Prepared.{Prepares};
+ghost use Rattle.select_engine.specs.Prepared.{IsBuiltIfAsked, Prepares, is_built};
 ghost use Rattle.select_reply.specs.Events.{error_event};
 ghost use Rattle.select_engine.specs.declared.asked.Asked.TheVariants.{Asks};
-ghost use Rattle.select_engine.specs.Answered.{events};
+ghost use Rattle.select_engine.specs.Events.{events};
 ghost use Rattle.record_stream.specs.Replied.{WritesReply};
 ghost use Rattle.select_tool.specs.Input.{IsUnread, most_of_body};
 ghost use Rattle.select_tool.specs.Replies.{IfTold, Replied, IsCutShort, IsLacking, IsMissingOrFault, IsNotHeldBack, NotHeldBack};
-ghost use Rattle.select_tool.specs.Replies.{Misses, CauseOf, TookNear, TookTwice, reply_outcome, longest_record, most_read_of};
+ghost use Rattle.select_tool.specs.Replies.{Misses, CauseOf, TookNear, TookOnce, reply_outcome, longest_record, most_read_of};
 
 use crate::input::read_body;
 use crate::trouble::Trouble;
 use select_engine::{
-    Asked, Code, EngineError, Job, Outcome, body_asks_one_thing, prepare, refuse, run_job,
-    unread_output_is_not_due,
+    Asked, Code, EngineError, Outcome, body_asks_one_thing, prepare, refuse, run_job,
+    unread_records_are_late,
 };
 use select_ports::{Failed, Found, FrameSink, Limits, Plain, Sink, Source, Store};
+use select_request::SelectRequest;
 use std::alloc::Global;
 
 /// The program's record limit.
@@ -48,13 +49,13 @@ pub(crate) fn select<S: Store, I: Source, O: Sink>(
         (Keeps (O.written out.old) (O.written out.new))
         (Keeps (O.written out.old) (O.written out.new))) }
     ensures missing { IsLacking (S.held store.old) name.now → IsErrAnd result IsMissingOrFault }
-    ensures taken { TookTwice (S.current store.new) (S.taken store.old) (S.taken store.new) }
+    ensures taken { TookOnce (S.current store.new) (S.taken store.old) (S.taken store.new) }
     ensures near { IfSome (I.left input.old) (λ body. TookNear (S.current store.new) body (S.taken store.old) (S.taken store.new)) }
     ensures input_taken { I.taken input.new ≤ I.taken input.old + most_of_body }
     ensures held { S.held store.new ≡ S.held store.old }
 {
     body_asks_one_thing();
-    unread_output_is_not_due();
+    unread_records_are_late();
     let size = open(store, name)?;
     let asked = read_asked(alloc, input)?;
     write_reply(alloc, &asked, store, size, &mut Plain { sink: out })
@@ -82,6 +83,7 @@ pub(crate) fn open<S: Store>(store: &mut S, name: &str) -> Result<u64, Trouble>
 /// Reads the body and what it asks.
 pub(crate) fn read_asked<I: Source>(alloc: Global, input: &mut I) -> Result<Asked, Trouble>
     ensures asked { IfOk result (λ asked. IfSome (I.left input.old) (λ body. Prepares body asked)) }
+    ensures built { IfOk result (λ asked. IsBuiltIfAsked asked) }
     ensures cause { IfErr result (λ trouble. CauseOf trouble ⊥ (Rose (I.faults input.old) (I.faults input.new)) ⊥ ⊥ ⊤ ⊤) }
     ensures input_taken { I.taken input.new ≤ I.taken input.old + most_of_body }
 {
@@ -101,6 +103,7 @@ fn write_reply<S: Store, K: FrameSink>(
     out: &mut K,
 ) -> Result<Outcome, Trouble>
     requires object { IsOpen (S.current store.old) size }
+    requires built { IsBuiltIfAsked asked.now }
     ensures reply { (object : List ℕ) → Tells (S.current store.old) object
         → WritesReply K.wrap (events longest_record object asked.now) (reply_outcome object asked.now)
         (K.written out.old) (K.written out.new) result }
@@ -111,7 +114,7 @@ fn write_reply<S: Store, K: FrameSink>(
         (Rose (S.faults store.old) (S.faults store.new))
         (Keeps (K.written out.old) (K.written out.new)) ⊤) }
     ensures near { S.taken store.new ≤ S.taken store.old + most_read_of size asked.now }
-    ensures taken { S.taken store.new ≤ S.taken store.old + 2 * size }
+    ensures taken { S.taken store.new ≤ S.taken store.old + size }
     ensures held { S.held store.new ≡ S.held store.old }
     ensures current { S.current store.new ≡ S.current store.old }
     ensures absent { S.absent store.new ≡ S.absent store.old }
@@ -120,30 +123,31 @@ fn write_reply<S: Store, K: FrameSink>(
 {
     match asked {
         Asked::Refused { code, at } => write_refusal(alloc, *code, *at, out),
-        Asked::Asks(job) => answer(alloc, job, store, size, out),
+        Asked::Asks(request) => answer(alloc, request, store, size, out),
     }
 }
 
-/// Writes the reply to a query over the open object, whose size is given.
+/// Writes the reply to a request over the open object, whose size is given.
 pub(crate) fn answer<S: Store, K: FrameSink>(
     alloc: Global,
-    job: &Job,
+    request: &SelectRequest,
     store: &mut S,
     size: u64,
     out: &mut K,
 ) -> Result<Outcome, Trouble>
     requires object { IsOpen (S.current store.old) size }
+    requires built { is_built request.now ≡ true }
     ensures reply { (object : List ℕ) → Tells (S.current store.old) object
-        → WritesReply K.wrap (events longest_record object (Asks job.now)) (reply_outcome object (Asks job.now))
+        → WritesReply K.wrap (events longest_record object (Asks request.now)) (reply_outcome object (Asks request.now))
         (K.written out.old) (K.written out.new) result }
     ensures early { (object : List ℕ) → Tells (S.current store.old) object → result ≡ Err Trouble.StoreFault
-        → IsNotHeldBack K.wrap object (S.taken store.new - S.taken store.old) (Asks job.now) (K.written out.old) (K.written out.new) }
+        → IsNotHeldBack K.wrap object (S.taken store.new - S.taken store.old) (Asks request.now) (K.written out.old) (K.written out.new) }
     ensures cause { IfErr result (λ trouble. CauseOf trouble ⊥ ⊥
         (Rose (K.faults out.old) (K.faults out.new))
         (Rose (S.faults store.old) (S.faults store.new))
         (Keeps (K.written out.old) (K.written out.new)) ⊤) }
-    ensures near { S.taken store.new ≤ S.taken store.old + most_read_of size (Asks job.now) }
-    ensures taken { S.taken store.new ≤ S.taken store.old + 2 * size }
+    ensures near { S.taken store.new ≤ S.taken store.old + most_read_of size (Asks request.now) }
+    ensures taken { S.taken store.new ≤ S.taken store.old + size }
     ensures held { S.held store.new ≡ S.held store.old }
     ensures current { S.current store.new ≡ S.current store.old }
     ensures absent { S.absent store.new ≡ S.absent store.old }
@@ -151,7 +155,7 @@ pub(crate) fn answer<S: Store, K: FrameSink>(
     ensures out_faults { K.faults out.old ≤ K.faults out.new }
     ensures rest { K.rest out.new ≡ K.rest out.old }
 {
-    match run_job(alloc, LIMITS, job, store, size, out) {
+    match run_job(alloc, LIMITS, request, store, size, out) {
         Ok(outcome) => Ok(outcome),
         Err(EngineError::StoreFault) => Err(Trouble::StoreFault),
         Err(EngineError::WriteFault) => Err(Trouble::OutputFault),

@@ -12,4 +12,4 @@ returns-in_err-size-clause-early g c = λ is.
     let written = g.O.Sink.written c.args.out.now in
     all_told (g.S.Store.held c.args.store.now) (g.I.Source.left c.args.input.now) c.args.name.now
     (λ object body. NotHeldBack object body taken written written)
-    (λ object body asked prepared. wrote_none c.unread_output_is_not_due.ensures (λ frame. frame) object taken asked written written none (Keeps-refl written))
+    (λ object body asked prepared. wrote_none c.unread_records_are_late.ensures (λ frame. frame) object taken asked written written none (Keeps-refl written))
