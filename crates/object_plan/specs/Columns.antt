@@ -33,7 +33,8 @@ csv_columns Without d longest object = Ok columns.Positions
 csv_columns Ignore d longest object = Ok columns.Positions
 csv_columns Use d longest object = used_columns d longest object
 
--- the columns of an object under a record limit, or the fault of its header
+-- the columns of an object under a record limit, or the fault of its header. No query over a Parquet file is built yet, so that its columns
+-- are never asked for
 abbrev pub columns_of : Input → ℕ → List ℕ → Result Columns Code
 columns_of (input.Csv csv) longest object = csv_columns csv.header (dialect_of csv) longest object
 columns_of input.JsonLines longest object = Ok columns.Json

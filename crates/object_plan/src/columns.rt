@@ -1,8 +1,8 @@
 //! The columns that a query over the open object may name. A used header is read by a seek of its own.
-ghost use Rattle.std.specs.Prelude.{◌≡◌, ◌+◌, ◌*◌, ◌≤◌, ◌^◌, ◌<◌, true, ℕ, List, length, IfErr};
+ghost use Rattle.std.specs.Prelude.{◌≡◌, ◌+◌, ◌≤◌, ◌^◌, ◌<◌, true, ℕ, List, length, IfErr};
 ghost use Rattle.select_ports.specs.Stored.{IsOpen};
 ghost use Rattle.line_window.specs.Sliding.{Tells};
-ghost use Rattle.csv_cutter.specs.Dialects.{is_valid, delimiter_bytes, dialect_of};
+ghost use Rattle.csv_cutter.specs.Dialects.{is_valid, delimiter_bytes};
 ghost use Rattle.record_rows.specs.Headers.{names_of};
 ghost use Rattle.select_request.specs.Printable.{is_input};
 ghost use Rattle.object_plan.specs.Columns.{named_columns, used_columns, columns_of, ends_with, header_read, header_once};
@@ -49,6 +49,7 @@ pub(crate) fn columns_of<S: Store>(
         },
         Input::JsonLines => Ok(Columns::Json),
         Input::JsonDocument => Ok(Columns::Document),
+        // no query over a Parquet file is built yet
         Input::Parquet => Ok(Columns::Positions),
     }
 }
