@@ -18,6 +18,8 @@ commands:
   tile NAME CUT..
                 the same with a reply for each range between the cuts, one after the
                 other: 1 to 1,000 bytes of the object, ascending, where tiles begin
+  limit BYTES select NAME, limit BYTES tile NAME CUT..
+                the same under a record limit of 1,024 to 16,777,216 bytes
   show          reads replies from standard input, and prints a line for each event
   records       reads replies from standard input, and writes the output that their
                 Records events hold

@@ -1,5 +1,5 @@
 -- Where nothing was read of a range, none of its records is early.
-use Rattle.std.proofs.Common.{◌≡◌, ℕ, ◌+◌, ◌*◌, Bool, true, false, ◌&&◌, List, [], ◌∷◌, Option, None, Some, refl, ap, ◌∙◌, arith, cond, if◌then◌else◌}
+use Rattle.std.proofs.Common.{◌≡◌, ℕ, ◌+◌, ◌*◌, ◌≤◌, Bool, true, false, ◌&&◌, List, [], ◌∷◌, Option, None, Some, refl, ap, ◌∙◌, arith, cond, if◌then◌else◌}
 use Rattle.std.specs.Prelude.{filter, nat_le}
 use Rattle.std.proofs.lemmas.List.Sums.{take_while-cons}
 use Rattle.std.proofs.lemmas.Bool.{lt-leb, leb-true}
@@ -41,13 +41,13 @@ front_from n test (y ∷ ys) from =
     let P : Bool → Type 0 = λ b. HeadFrom n (if b then [] else y ∷ shortest_front (λ front. test (y ∷ front)) ys) in
     elim (test []) as P [ true ↦ tt | false ↦ from ]
 
-none_early : (longest n : ℕ) (ys : List Yielded) → HeadFrom n ys → early longest n ys ≡ []
-none_early longest n [] from = refl
-none_early longest n (y ∷ ys) from =
-    let late : nat_le (y.start + y.len + (2 * longest + 5 * 65536)) n ≡ false = lt-leb (y.start + y.len + (2 * longest + 5 * 65536)) n (omega arith) in
-    take_while-cons (λ y. nat_le (y.start + y.len + (2 * longest + 5 * 65536)) n) y ys ∙ ap (λ b. cond b (y ∷ early longest n ys) []) late
+none_early : (longest n upto : ℕ) (ys : List Yielded) → upto ≤ n + (longest + 65538) → HeadFrom n ys → early longest upto ys ≡ []
+none_early longest n upto [] near from = refl
+none_early longest n upto (y ∷ ys) near from =
+    let late : nat_le (y.start + y.len + (2 * longest + 5 * 65536)) upto ≡ false = lt-leb (y.start + y.len + (2 * longest + 5 * 65536)) upto (omega arith) in
+    take_while-cons (λ y. nat_le (y.start + y.len + (2 * longest + 5 * 65536)) upto) y ys ∙ ap (λ b. cond b (y ∷ early longest upto ys) []) late
 
 pub unread_are_late : UnreadAreLate
-unread_are_late lines longest d object range limit =
+unread_are_late lines longest d object range limit upto near =
     let ys = yields lines longest d object range in
-    none_early longest (first_of range) (processed limit ys) (front_from (first_of range) (is_answered limit) ys (yields_from lines longest d object range))
+    none_early longest (first_of range) upto (processed limit ys) near (front_from (first_of range) (is_answered limit) ys (yields_from lines longest d object range))

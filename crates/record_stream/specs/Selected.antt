@@ -27,8 +27,3 @@ first_of (Some range) = range.0
 abbrev pub most_read : ℕ → Option (ℕ × ℕ) → ℕ
 most_read longest None = 0
 most_read longest (Some range) = range.1 + 1 - range.0 + (longest + 2 * piece)
-
--- the most bytes of the object that are taken, a header's among them: those of the range, the record limit twice and four pieces
-abbrev pub most_taken : ℕ → Option (ℕ × ℕ) → ℕ
-most_taken longest None = 0
-most_taken longest (Some range) = range.1 + 1 - range.0 + (2 * longest + 4 * piece)

@@ -15,7 +15,7 @@ pub fn tiles_have_each_record_once()
     tiles_make_the_whole();
 }
 
-/// Where nothing was read of a range, none of its records is early.
+/// Where nothing was read of a range, and no more than a header before it, none of its records is early.
 pub fn unread_records_are_late()
     ensures { UnreadAreLate }
 {}

@@ -38,10 +38,10 @@ pub fn answer_range<S: Store, K: FrameSink, Y: LineYields>(
         (K.written out.old) (K.written out.new) result }
     // Output isn't held back while the object is read on, from the range's first byte, also where as many bytes as a header may have
     // were read before.
-    ensures early { (object : List ℕ) (spent : ℕ) → spent ≤ window.old.longest + 65538 → Tells (S.current store.old) object
+    ensures early { (object : List ℕ) (upto : ℕ) → Tells (S.current store.old) object
+        → upto ≤ first_of (resolved range (length object)) + (window.old.longest + 65538 + (S.taken store.new - S.taken store.old))
         → result ≡ Err StreamError.StoreFault
-        → WroteEarly K.wrap reply.old.progress window.old.longest
-        (first_of (resolved range (length object)) + (spent + (S.taken store.new - S.taken store.old)))
+        → WroteEarly K.wrap reply.old.progress window.old.longest upto
         (processed reply.old.left
         (yields (Y.lines lines.old) window.old.longest window.old.delimiter object (resolved range (length object))))
         (K.written out.old) (K.written out.new) }
@@ -96,9 +96,10 @@ fn answer_lines<S: Store, K: FrameSink, Y: LineYields>(
         → Answers K.wrap reply.old.progress
         (processed reply.old.left (yields_of (Y.lines lines.old) window.old.longest (left object window.old)))
         (K.written out.old) (K.written out.new) result }
-    ensures early { (object : List ℕ) (spent : ℕ) → spent ≤ window.old.longest + 65538 → Tells (S.current store.old) object
-        → Holds object window.old → result ≡ Err StreamError.StoreFault
-        → WroteEarly K.wrap reply.old.progress window.old.longest (window.old.place + (spent + (S.taken store.new - S.taken store.old)))
+    ensures early { (object : List ℕ) (upto : ℕ) → Tells (S.current store.old) object → Holds object window.old
+        → upto ≤ window.old.place + (window.old.longest + 65538 + (S.taken store.new - S.taken store.old))
+        → result ≡ Err StreamError.StoreFault
+        → WroteEarly K.wrap reply.old.progress window.old.longest upto
         (processed reply.old.left (yields_of (Y.lines lines.old) window.old.longest (left object window.old)))
         (K.written out.old) (K.written out.new) }
     ensures cause { IfErr result (HasStreamCause (S.faults store.old) (S.faults store.new) (K.faults out.old) (K.faults out.new)) }

@@ -14,7 +14,7 @@ pub(crate) fn tell_asked(alloc: Global, row: &Row) -> Result<String, Fail> {
     let body = row.joined(alloc, 0)?;
     let mut text = String::new(alloc);
     match prepare(alloc, body.as_slice())? {
-        Asked::Asks(request) => show(&mut text, request.expression.text().as_bytes())?,
+        Asked::Asks(job) => show(&mut text, job.request().expression.text().as_bytes())?,
         Asked::Refused { code, at } => {
             let code = code.text();
             write!(text, "{code} at {at}")?;
@@ -31,7 +31,7 @@ pub(crate) fn tell_job(alloc: Global, row: &Row) -> Result<String, Fail> {
         bytes.extend_from_slice(row.bytes(0)?)?;
     }
     let body = row.joined(alloc, 2)?;
-    let Asked::Asks(request) = prepare(alloc, body.as_slice())? else {
+    let Asked::Asks(job) = prepare(alloc, body.as_slice())? else {
         return Err(Fail::new("the body is refused"));
     };
     let objects = Vec::from_array(alloc, [MemObject { name, bytes }])?;
@@ -43,7 +43,7 @@ pub(crate) fn tell_job(alloc: Global, row: &Row) -> Result<String, Fail> {
     let limits = Limits { longest: 1_048_576 };
     let mut sink = MemSink::new(Vec::new(alloc), Vec::new(alloc), Vec::new(alloc));
     let mut out = Plain { sink: &mut sink };
-    let ended = run_job(alloc, limits, &request, &mut store, size, &mut out);
+    let ended = run_job(alloc, limits, &job, &mut store, size, &mut out);
     tell_ended(alloc, ended, sink.written())
 }
 

@@ -1,3 +1,1 @@
-mod Contents
-mod OneAsked
-pub mod Unspent
+pub mod Undue

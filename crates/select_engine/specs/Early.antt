@@ -1,13 +1,16 @@
--- Where nothing was read of a range, no output had to be written.
-use Rattle.std.specs.Prelude.{◌≡◌, ℕ, List, [], length}
+-- Where no more than a header was read of an object, no output had to be written.
+use Rattle.std.specs.Prelude.{ℕ, ◌+◌, ◌≤◌, Bool, List, length, Option}
+use Rattle.std.specs.Io.KnownBytes.{Keeps}
 use Rattle.scan_ranges.specs.Resolved.{resolved}
 use Rattle.select_request.specs.declared.request.SelectRequest.{SelectRequest}
+use Rattle.sql_grammar.specs.declared.tree.Query.{Query}
 use Rattle.record_stream.specs.Selected.{first_of}
-use Rattle.record_stream.specs.Replied.{early}
-use Rattle.select_engine.specs.Events.{answered}
+use Rattle.select_engine.specs.Answered.{answered}
+use Rattle.select_engine.specs.Jobs.{IsEarly}
 
--- none of the records that a request processes ends before its range
-abbrev pub UnreadAreLate : Type 0
-UnreadAreLate =
-    (longest : ℕ) (object : List ℕ) (request : SelectRequest)
-    → early longest (first_of (resolved request.range (length object))) (answered longest object request) ≡ []
+-- none of the records that a query processes ends before its range
+abbrev pub UnreadIsNotDue : Type 0
+UnreadIsNotDue =
+    (wrap : List ℕ → List ℕ) (progress : Bool) (longest : ℕ) (object : List ℕ) (request : SelectRequest) (query : Query) (upto : ℕ)
+    (before now : Option (List ℕ)) → upto ≤ first_of (resolved request.range (length object)) + (longest + 65538) → Keeps before now
+    → IsEarly wrap progress longest upto (answered longest object request query) before now

@@ -1,8 +1,3 @@
+pub mod Answered
 pub mod Early
-pub mod Events
 pub mod Jobs
-pub mod Prepared
-pub mod RecordYields
-pub mod Records
-pub mod Selected
-pub mod Tiling

@@ -1,16 +1,13 @@
-//! The reply to one query: what a body asks, the records of the object, what each yields, and the frames of the events that this
-//! means.
+//! Runs a query over the store's open object: the plan of the query, and the reply over the records that start in the request's range.
 #![tactic(auto)]
 
-mod asked;
-mod content;
-mod job;
 mod laws;
-mod line;
 mod outcome;
+mod run;
 
-pub use asked::{Asked, prepare};
-pub use job::{refuse, run_job};
-pub use laws::{body_asks_one_thing, tiles_have_each_record_once, unread_records_are_late};
+pub use laws::unread_output_is_not_due;
 pub use outcome::EngineError;
+pub use record_stream::tiles_have_each_record_once;
+pub use run::{refuse, run_job};
+pub use select_job::{Asked, Job, body_asks_one_thing, prepare};
 pub use select_reply::{Code, Outcome};

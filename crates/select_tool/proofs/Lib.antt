@@ -1,3 +1,4 @@
+pub mod BodyLaws
 pub mod EndingLaws
 pub mod Filling
 pub mod LineLaws
@@ -5,6 +6,7 @@ pub mod ListingLaws
 pub mod NothingRead
 pub mod OneListing
 pub mod ReplyLaws
+pub mod SelectLaws
 pub mod WholeLaws
 pub mod TileSteps
 pub mod WordLaws

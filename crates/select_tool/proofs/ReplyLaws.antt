@@ -1,5 +1,5 @@
 -- Facts of the told object and body.
-use Rattle.std.proofs.Common.{◌≡◌, ℕ, List, Option, None, Some, IfSome}
+use Rattle.std.proofs.Common.{ℕ, List, Option, None, Some, IfSome}
 use Rattle.select_ports.specs.Stored.{Objects}
 use Rattle.select_tool.specs.Replies.{IfTold}
 

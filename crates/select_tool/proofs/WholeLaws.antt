@@ -1,33 +1,46 @@
 -- The tiles of an object have each record of the whole once, and the replies to them make the reply to the whole.
-use Rattle.std.proofs.Common.{◌≡◌, ℕ, ◌+◌, ◌-◌, ◌<◌, Bool, true, false, ◌||◌, List, [], ◌∷◌, ◌++◌, length, map, Option, None, Some, refl, sym, ap, ◌∙◌, subst, append_assoc, append-nil, arith}
+use Rattle.std.proofs.Common.{◌≡◌, ℕ, ◌+◌, ◌-◌, Bool, true, false, ◌||◌, List, [], ◌∷◌, ◌++◌, length, map, Option, None, Some, Result, Ok, Err, inl, inr, refl, sym, ap, ◌∙◌, subst, append-nil}
 use Rattle.std.specs.Prelude.{sum_by, filter, if◌then◌else◌}
-use Rattle.std.specs.List.{flat_map, list_any}
-use Rattle.std.proofs.lemmas.Grind.{flat_map-append}
+use Rattle.std.specs.List.{flat_map}
 use Rattle.std.proofs.lemmas.List.{map-append}
 use Rattle.std.proofs.lemmas.List.Folds.{list_any-append}
 use Rattle.std.proofs.lemmas.List.Sums.{sum_by-cons}
 use Rattle.event_frame.specs.declared.counts.Counts.{Counts}
 use Rattle.scan_ranges.specs.Resolved.{cut_to, resolved}
-use Rattle.select_request.specs.declared.request.SelectRequest.{SelectRequest}
 use Rattle.select_request.specs.declared.request.ScanRange.{ScanRange}
 use Rattle.select_request.specs.declared.request.ScanRange.TheVariants.{Between, From}
 use Rattle.select_reply.specs.declared.code.Code.{Code}
-use Rattle.select_reply.specs.Yields.{Yield, Yielded, silent, writes, fails, is_fault, has_fault, output, total_len, fault, fault_on}
+use Rattle.select_reply.specs.declared.code.Code.TheVariants.{NotBuilt}
+use Rattle.select_reply.specs.Events.{payloads}
+use Rattle.select_reply.specs.Yields.{Yield, Yielded, silent, writes, fails, is_fault, has_fault, output, total_len, fault}
 use Rattle.select_reply.specs.Answers.{processed}
 use Rattle.select_reply.specs.Turns.{yielded}
 use Rattle.select_reply.specs.declared.outcome.Outcome.{Outcome}
-use Rattle.select_engine.specs.declared.asked.Asked.{Asked}
+use Rattle.select_job.specs.declared.asked.Asked.{Asked}
+use Rattle.select_job.specs.declared.asked.Asked.TheVariants.{Asks}
 use Rattle.select_reply.specs.Replies.{ending_of}
-use Rattle.select_reply.specs.Tilings.{joined, payload_of as carried_by, payloads_of as carried_by_all, TilesJoin, EachTilesJoin, TilesFail, EachTilesFail}
-use Rattle.select_engine.specs.Records.{delimiter}
-use Rattle.select_engine.specs.RecordYields.{lines}
-use Rattle.record_stream.specs.Selected.{lies_in, all_yields, yields as range_yields}
-use Rattle.select_engine.specs.Selected.{yields}
-use Rattle.record_stream.specs.Tiling.{Ascend, ranges_from}
-use Rattle.select_engine.specs.Tiling.{tile_yields, whole_yields, EachTilingJoins}
-use Rattle.select_tool.specs.Replies.{longest_record, reply_outcome}
+use Rattle.select_reply.specs.Tilings.{joined, payload_of as carried_by, payloads_of as carried_by_all, EachTilesJoin, EachTilesFail}
+use Rattle.record_rows.specs.Formats.{format_of, line_delimiter}
+use Rattle.record_rows.specs.declared.format.LineFormat.{LineFormat}
+use Rattle.scan_plan.specs.declared.columns.Columns.{Columns}
+use Rattle.scan_plan.specs.declared.plans.BindFault.{BindFault}
+use Rattle.scan_plan.specs.declared.plans.Plan.{Plan}
+use Rattle.scan_plan.specs.Plans.{planned, planned_unless, plan_with}
+use Rattle.scan_plan.specs.Finds.{query_finds, used_columns, bind_fault}
+use Rattle.sql_grammar.specs.declared.tree.Query.{Query}
+use Rattle.record_stream.specs.Lines.{Lines}
+use Rattle.record_stream.specs.Selected.{lies_in, all_yields, yields}
+use Rattle.record_stream.specs.Tiling.{Ascend, ranges_from, EachTilingJoins}
+use Rattle.select_job.specs.Jobs.{Job}
+use Rattle.planned_lines.specs.declared.planned.Planned.{Planned}
+use Rattle.object_plan.specs.Columns.{columns_of}
+use Rattle.planned_lines.specs.LineYields.{lines_of}
+use Rattle.select_job.specs.Jobs.{request_with, with_range}
+use Rattle.object_plan.specs.Planning.{bound_to, bound_in, planned_over}
+use Rattle.select_engine.specs.Answered.{answered_in, answered_by, answered, ended, events_of}
+use Rattle.select_tool.specs.Replies.{reply_outcome}
 use Rattle.select_tool.specs.Tiles.{tile_ranges, tile_of, has_error, any_error}
-use Rattle.select_tool.specs.Whole.{places_of, yields_in, payload_of, payloads_of, counts_of, summed, whole_of, JoinsToDone, JoinsToError, JoinsTo, MakesWhole, EachTilingMakesWhole}
+use Rattle.select_tool.specs.Whole.{places_of, yields_by, yields_in, payload_of, payloads_of, counts_of, summed, whole_of, JoinsTo, MakesWhole, EachTilingMakesWhole}
 
 -- ---- the first record with a code
 
@@ -64,10 +77,6 @@ starts_in test (y ∷ ys) =
     let P : Bool → Type 0 = λ b. test y.start ≡ b → StartsIn test (if b then y ∷ kept else kept) in
     (elim (test y.start) as P [ true ↦ λ yes. (yes, starts_in test ys) | false ↦ λ no. starts_in test ys ]) refl
 
-tile_starts : (longest : ℕ) (object : List ℕ) (range : Option (ℕ × ℕ)) → StartsIn (lies_in range) (yields longest object range)
-unfolding range_yields
-tile_starts longest object range = starts_in (lies_in range) (all_yields lines longest delimiter object)
-
 -- ---- lists of tiles
 
 first_of_two : (a b : Bool) → (a || b) ≡ false → a ≡ false
@@ -82,30 +91,83 @@ second_of_two true b h = absurd cc
 neither : (a b : Bool) → a ≡ false → b ≡ false → (a || b) ≡ false
 neither a b h k = rw (h, k) refl
 
-module _ (object : List ℕ) (request : SelectRequest) where
+-- ---- a query that is bound, without a limit
+
+module _ (longest : ℕ) (object : List ℕ) (job : Job) (format : LineFormat) (p : Planned) (has_format : format_of job.request.input ≡ Some format)
+    (is_planned : planned_over longest object job.request.input job.query ≡ Ok p) where
+  bound_lines : Lines
+  bound_lines = lines_of format p.columns p.plan job.request.output longest
+
+  abbrev in_places : Option (ℕ × ℕ) → List Yielded
+  in_places places = yields (lines_of format p.columns p.plan job.request.output longest) longest (line_delimiter format) object places
+
+  yields_are : (range : Option ScanRange) → yields_in longest object job range ≡ in_places (resolved range (length object))
+  yields_are range =
+      ap (λ f. yields_by longest f (planned_over longest object job.request.input job.query) object (request_with job.request range)) has_format
+      ∙ ap (λ q. yields_by longest (Some format) q object (request_with job.request range)) is_planned
+
   -- what the records of a range yield
+  abbrev of_range : ScanRange → List Yielded
+  of_range range = yields_in longest object job (Some range)
+
+  abbrev of_ranges : List ScanRange → List (List Yielded)
+  of_ranges ranges = map of_range ranges
+
+  tile_starts : (range : ScanRange) → StartsIn (lies_in (places_of object range)) (of_range range)
+  unfolding yields
+  tile_starts range =
+      subst (StartsIn (lies_in (places_of object range))) (sym (yields_are (Some range)))
+      (starts_in (lies_in (places_of object range)) (all_yields (lines_of format p.columns p.plan job.request.output longest) longest (line_delimiter format) object))
+
+  -- the ranges have the places of the tiles
+  tiles_are : (first : ℕ) (cuts : List ℕ) → map in_places (ranges_from first cuts (length object)) ≡ of_ranges (tile_ranges first cuts)
+  unfolding resolved
+  tiles_are first [] = ap (λ l. l ∷ []) (sym (yields_are (Some (From first))))
+  tiles_are first (cut ∷ cuts) =
+      ap (λ l. in_places (cut_to first (cut - 1) (length object)) ∷ l) (tiles_are cut cuts)
+      ∙ ap (λ l. l ∷ of_ranges (tile_ranges cut cuts)) (sym (yields_are (Some (Between first (cut - 1)))))
+
+  records_are : (ranges : List ScanRange) → flat_map (λ range. yields_in longest object job (Some range)) ranges ≡ joined (of_ranges ranges)
+  records_are [] = refl
+  records_are (range ∷ ranges) = ap (λ l. yields_in longest object job (Some range) ++ l) (records_are ranges)
+
+  whole_is : EachTilingJoins → (cuts : List ℕ) → Ascend 0 cuts → joined (of_ranges (tile_ranges 0 cuts)) ≡ yields_in longest object job None
+  whole_is joins cuts up =
+      ap joined (sym (tiles_are 0 cuts))
+      ∙ joins (lines_of format p.columns p.plan job.request.output longest) longest (line_delimiter format) object cuts up ∙ sym (yields_are None)
+
+-- ---- and has no limit
+
+module _ (longest : ℕ) (object : List ℕ) (job : Job) (format : LineFormat) (p : Planned) (has_format : format_of job.request.input ≡ Some format)
+    (is_planned : planned_over longest object job.request.input job.query ≡ Ok p) (unlimited : p.plan.limit ≡ None) where
   abbrev tile : ScanRange → List Yielded
-  tile range = yields_in object (Some range)
+  tile range = yields_in longest object job (Some range)
 
   abbrev all : List ScanRange → List (List Yielded)
   all ranges = map tile ranges
 
-  -- the ranges have the places of the engine's tiles
-  tiles_are : (first : ℕ) (cuts : List ℕ) → map (yields longest_record object) (ranges_from first cuts (length object)) ≡ all (tile_ranges first cuts)
-  unfolding resolved
-  tiles_are first [] = refl
-  tiles_are first (cut ∷ cuts) = ap (λ l. yields longest_record object (cut_to first (cut - 1) (length object)) ∷ l) (tiles_are cut cuts)
+  answered_is : (range : Option ScanRange) → answered longest object (request_with job.request range) job.query ≡ Ok (processed None (yields_in longest object job range))
+  answered_is range =
+      ap (λ f. answered_in f longest object (request_with job.request range) job.query) has_format
+      ∙ ap (answered_by format longest object (request_with job.request range)) is_planned
+      ∙ ap (λ l. Ok (processed l (in_places longest object job format p has_format is_planned (resolved range (length object))))) unlimited
+      ∙ ap (λ ys. Ok (processed None ys)) (sym (yields_are longest object job format p has_format is_planned range))
 
-  records_are : (ranges : List ScanRange) → flat_map (λ range. yields_in object (Some range)) ranges ≡ joined (all ranges)
-  records_are [] = refl
-  records_are (range ∷ ranges) = ap (λ l. yields_in object (Some range) ++ l) (records_are ranges)
+  payload_is : (range : Option ScanRange) → payload_of longest object (Asks (with_range job range)) ≡ carried_by job.request.progress (yields_in longest object job range)
+  payload_is range = ap (λ a. payloads (events_of job.request.progress a)) (answered_is range)
 
-  payloads_are : (ranges : List ScanRange) → payloads_of object (map (tile_of request) ranges) ≡ carried_by_all request.progress (all ranges)
+  payloads_are : (ranges : List ScanRange) → payloads_of longest object (map (tile_of job) ranges) ≡ carried_by_all job.request.progress (all ranges)
   payloads_are [] = refl
-  payloads_are (range ∷ ranges) = ap (λ l. payload_of object (tile_of request range) ++ l) (payloads_are ranges)
+  payloads_are (range ∷ ranges) =
+      ap (λ l. payload_of longest object (tile_of job range) ++ l) (payloads_are ranges)
+      ∙ ap (λ l. l ++ carried_by_all job.request.progress (all ranges)) (payload_is (Some range))
 
-  outcome_is : (range : ScanRange) → reply_outcome object (tile_of request range) ≡ ending_of (processed None (tile range)) (fault (processed None (tile range)))
-  outcome_is range = refl
+  ending_is : (range : Option ScanRange) → reply_outcome longest object (Asks (with_range job range))
+      ≡ ending_of (processed None (yields_in longest object job range)) (fault (processed None (yields_in longest object job range)))
+  ending_is range = ap ended (answered_is range)
+
+  outcome_is : (range : ScanRange) → reply_outcome longest object (tile_of job range) ≡ ending_of (processed None (tile range)) (fault (processed None (tile range)))
+  outcome_is range = ending_is (Some range)
 
   all-cons : (range : ScanRange) (ranges : List ScanRange) → joined (all (range ∷ ranges)) ≡ tile range ++ joined (all ranges)
   all-cons range ranges = refl
@@ -153,44 +215,44 @@ module _ (object : List ℕ) (request : SelectRequest) where
         one.fine [] ys [] refl
 
     fine_tile : (range : ScanRange) → has_fault (tile range) ≡ false
-        → reply_outcome object (tile_of request range) ≡ ending_of (processed None (tile range)) None
+        → reply_outcome longest object (tile_of job range) ≡ ending_of (processed None (tile range)) None
     fine_tile range clean = outcome_is range ∙ ap (ending_of (processed None (tile range))) (fine_one (tile range) clean)
 
-    none_fails : (ranges : List ScanRange) → has_fault (joined (all ranges)) ≡ false → any_error object (map (tile_of request) ranges) ≡ false
+    none_fails : (ranges : List ScanRange) → has_fault (joined (all ranges)) ≡ false → any_error longest object (map (tile_of job) ranges) ≡ false
     none_fails [] clean = refl
     none_fails (range ∷ ranges) clean =
         let two = sym (both range ranges) ∙ clean in
         let here = fine_tile range (first_of_two (has_fault (tile range)) (has_fault (joined (all ranges))) two) in
         let later_ = none_fails ranges (second_of_two (has_fault (tile range)) (has_fault (joined (all ranges))) two) in
-        neither (has_error (reply_outcome object (tile_of request range))) (any_error object (map (tile_of request) ranges)) (ap has_error here) later_
+        neither (has_error (reply_outcome longest object (tile_of job range))) (any_error longest object (map (tile_of job) ranges)) (ap has_error here) later_
 
     -- a count, summed
     summed_is : (count : Counts → ℕ) (of : List Yielded → ℕ) → ((ys : List Yielded) → count (counts_of (ending_of (processed None ys) None)) ≡ of ys)
         → (ranges : List ScanRange) → has_fault (joined (all ranges)) ≡ false
-        → summed count object (map (tile_of request) ranges) ≡ sum_by of (all ranges)
+        → summed count longest object (map (tile_of job) ranges) ≡ sum_by of (all ranges)
     summed_is count of same [] clean = refl
     summed_is count of same (range ∷ ranges) clean =
         let two = sym (both range ranges) ∙ clean in
         let here = fine_tile range (first_of_two (has_fault (tile range)) (has_fault (joined (all ranges))) two) in
         let rest = summed_is count of same ranges (second_of_two (has_fault (tile range)) (has_fault (joined (all ranges))) two) in
-        sum_by-cons (λ (asked : Asked). count (counts_of (reply_outcome object asked))) (tile_of request range) (map (tile_of request) ranges)
-        ∙ ap (λ (o : Outcome). count (counts_of o) + summed count object (map (tile_of request) ranges)) here
-        ∙ ap (λ n. n + summed count object (map (tile_of request) ranges)) (same (tile range))
+        sum_by-cons (λ (asked : Asked). count (counts_of (reply_outcome longest object asked))) (tile_of job range) (map (tile_of job) ranges)
+        ∙ ap (λ (o : Outcome). count (counts_of o) + summed count longest object (map (tile_of job) ranges)) here
+        ∙ ap (λ n. n + summed count longest object (map (tile_of job) ranges)) (same (tile range))
         ∙ ap (λ n. of (tile range) + n) rest ∙ sym (sum_by-cons of (tile range) (map tile ranges))
 
-    module _ (fails_too : EachTilesFail) (cuts : List ℕ) (whole : joined (all (tile_ranges 0 cuts)) ≡ yields_in object None) where
+    module _ (fails_too : EachTilesFail) (cuts : List ℕ) (whole : joined (all (tile_ranges 0 cuts)) ≡ yields_in longest object job None) where
       abbrev done : List Yielded
-      done = processed None (yields_in object None)
+      done = processed None (yields_in longest object job None)
 
-      to_done : has_fault (yields_in object None) ≡ false → JoinsTo object request cuts (ending_of done (fault done))
+      to_done : has_fault (yields_in longest object job None) ≡ false → JoinsTo longest object job cuts (ending_of done (fault done))
       to_done clean =
           let tiles_clean = ap has_fault whole ∙ clean in
-          let made = join request.progress (all (tile_ranges 0 cuts)) tiles_clean in
-          let none : fault done ≡ None = fine_one (yields_in object None) clean in
+          let made = join job.request.progress (all (tile_ranges 0 cuts)) tiles_clean in
+          let none : fault done ≡ None = fine_one (yields_in longest object job None) clean in
           let same : processed None (joined (all (tile_ranges 0 cuts))) ≡ done = ap (processed None) whole in
-          subst (λ (f : Option (Code × ℕ)). JoinsTo object request cuts (ending_of done f)) (sym none) (record {
+          subst (λ (f : Option (Code × ℕ)). JoinsTo longest object job cuts (ending_of done f)) (sym none) (record {
             fine = none_fails (tile_ranges 0 cuts) tiles_clean;
-            output = payloads_are (tile_ranges 0 cuts) ∙ made.payloads ∙ ap (carried_by request.progress) whole;
+            output = payloads_are (tile_ranges 0 cuts) ∙ made.payloads ∙ ap (carried_by job.request.progress) whole ∙ sym (payload_is None);
             scanned = summed_is (λ (d : Counts). d.scanned) (λ (t : List Yielded). total_len (processed None t)) (λ ys. refl) (tile_ranges 0 cuts) tiles_clean
                 ∙ made.scanned ∙ ap total_len same;
             processed = summed_is (λ (d : Counts). d.processed) (λ (t : List Yielded). total_len (processed None t)) (λ ys. refl) (tile_ranges 0 cuts) tiles_clean
@@ -199,15 +261,15 @@ module _ (object : List ℕ) (request : SelectRequest) where
                 ∙ made.returned ∙ ap (λ (l : List Yielded). length (output l)) same;
           })
 
-      to_error : has_fault (yields_in object None) ≡ true → JoinsTo object request cuts (ending_of done (fault done))
+      to_error : has_fault (yields_in longest object job None) ≡ true → JoinsTo longest object job cuts (ending_of done (fault done))
       to_error some =
           let f = first_tile (tile_ranges 0 cuts) (ap has_fault whole ∙ some) in
           let parts : all (tile_ranges 0 cuts) ≡ all f.front ++ tile f.range ∷ all f.back = ap all f.split ∙ all-split f.front f.range f.back in
-          let shared = fails_too request.progress (all f.front) (tile f.range) (all f.back) f.fine f.fails_ in
-          let first = has_first (lies_in (places_of object f.range)) (tile f.range) (tile_starts longest_record object (places_of object f.range)) f.fails_ in
-          let in_whole : joined (all f.front ++ tile f.range ∷ all f.back) ≡ yields_in object None = ap joined (sym parts) ∙ whole in
+          let shared = fails_too job.request.progress (all f.front) (tile f.range) (all f.back) f.fine f.fails_ in
+          let first = has_first (lies_in (places_of object f.range)) (tile f.range) (tile_starts longest object job format p has_format is_planned f.range) f.fails_ in
+          let in_whole : joined (all f.front ++ tile f.range ∷ all f.back) ≡ yields_in longest object job None = ap joined (sym parts) ∙ whole in
           let is : fault done ≡ Some (first.code, first.at) = ap (λ (ys : List Yielded). fault (processed None ys)) (sym in_whole) ∙ shared.fault ∙ first.is in
-          subst (λ (g : Option (Code × ℕ)). JoinsTo object request cuts (ending_of done g)) (sym is) (record {
+          subst (λ (g : Option (Code × ℕ)). JoinsTo longest object job cuts (ending_of done g)) (sym is) (inl (record {
             front = f.front;
             range = f.range;
             back = f.back;
@@ -215,23 +277,84 @@ module _ (object : List ℕ) (request : SelectRequest) where
             fine = none_fails f.front f.fine;
             error = outcome_is f.range ∙ ap (ending_of (processed None (tile f.range))) first.is;
             place = first.passes;
-            output = payloads_are (f.front ++ f.range ∷ []) ∙ ap (carried_by_all request.progress) (all-split f.front f.range []) ∙ shared.payloads
-                ∙ ap (carried_by request.progress) in_whole;
-          })
+            output = payloads_are (f.front ++ f.range ∷ []) ∙ ap (carried_by_all job.request.progress) (all-split f.front f.range []) ∙ shared.payloads
+                ∙ ap (carried_by job.request.progress) in_whole ∙ sym (payload_is None);
+          }))
 
-      joins : JoinsTo object request cuts (ending_of done (fault done))
+      joins : JoinsTo longest object job cuts (ending_of done (fault done))
       joins =
-          let P : Bool → Type 0 = λ b. has_fault (yields_in object None) ≡ b → JoinsTo object request cuts (ending_of done (fault done)) in
-          (elim (has_fault (yields_in object None)) as P [ true ↦ to_error | false ↦ to_done ]) refl
+          let P : Bool → Type 0 = λ b. has_fault (yields_in longest object job None) ≡ b → JoinsTo longest object job cuts (ending_of done (fault done)) in
+          (elim (has_fault (yields_in longest object job None)) as P [ true ↦ to_error | false ↦ to_done ]) refl
 
-      joins_whole : JoinsTo object request cuts (reply_outcome object (whole_of request))
-      joins_whole = joins
+      joins_whole : JoinsTo longest object job cuts (reply_outcome longest object (whole_of job))
+      joins_whole = subst (JoinsTo longest object job cuts) (sym (ending_is None)) joins
+
+-- ---- a code before the first record
+
+no_records : (longest : ℕ) (object : List ℕ) (job : Job) → ((range : Option ScanRange) → yields_in longest object job range ≡ []) → (ranges : List ScanRange)
+    → flat_map (λ range. yields_in longest object job (Some range)) ranges ≡ []
+no_records longest object job none [] = refl
+no_records longest object job none (range ∷ ranges) = ap (λ l. l ++ flat_map (λ r. yields_in longest object job (Some r)) ranges) (none (Some range)) ∙ no_records longest object job none ranges
+
+fails_alike : (longest : ℕ) (object : List ℕ) (job : Job) (cuts : List ℕ) (code : Code) → ((range : Option ScanRange) → yields_in longest object job range ≡ [])
+    → ((range : Option ScanRange) → answered longest object (request_with job.request range) job.query ≡ Err code) → MakesWhole longest object job cuts
+fails_alike longest object job cuts code none fails_ = record {
+  records = no_records longest object job none (tile_ranges 0 cuts) ∙ sym (none None);
+  joined = λ unlimited. subst (JoinsTo longest object job cuts) (sym (ap ended (fails_ None))) (inr (record {
+    none = none None;
+    alike = λ range. ap (events_of job.request.progress) (fails_ (Some range) ∙ sym (fails_ None));
+  }));
+}
+
+-- ---- the limit of a plan is its query's
+
+plan_limit : (columns : Columns) (q : Query) (plan : Plan) → planned columns q ≡ Ok plan → plan.limit ≡ q.limit
+unfolding planned
+plan_limit columns q plan is = by (bind_fault columns q) is
+  where
+    by : (f : Option BindFault) → planned_unless f (plan_with columns q (used_columns columns (query_finds columns q))) ≡ Ok plan → plan.limit ≡ q.limit
+    by None h =
+        let same : plan_with columns q (used_columns columns (query_finds columns q)) ≡ plan = cc in
+        ap (λ (p : Plan). p.limit) (sym same)
+    by (Some f) h = absurd cc
+
+module _ (q : Query) (p : Planned) where
+  in_plan : (columns : Columns) (r : Result Plan BindFault) → planned columns q ≡ r → bound_to columns r ≡ Ok p → p.plan.limit ≡ q.limit
+  in_plan columns (Ok plan) is h =
+      let same : record { columns = columns; plan = plan } ≡ p = cc in
+      ap (λ (r : Planned). r.plan.limit) (sym same) ∙ plan_limit columns q plan is
+  in_plan columns (Err f) is h = absurd cc
+
+  in_columns : (c : Result Columns Code) → bound_in q c ≡ Ok p → p.plan.limit ≡ q.limit
+  in_columns (Ok columns) h = in_plan columns (planned columns q) refl h
+  in_columns (Err code) h = absurd cc
+
+-- ---- every query
+
+module _ (joins : EachTilingJoins) (join : EachTilesJoin) (fails_too : EachTilesFail) (longest : ℕ) (object : List ℕ) (job : Job) (cuts : List ℕ) (up : Ascend 0 cuts) where
+  by_plan : (format : LineFormat) → format_of job.request.input ≡ Some format → (q : Result Planned Code)
+      → planned_over longest object job.request.input job.query ≡ q → MakesWhole longest object job cuts
+  by_plan format has_format (Ok p) is =
+      let whole = whole_is longest object job format p has_format is joins cuts up in
+      record {
+        records = records_are longest object job format p has_format is (tile_ranges 0 cuts) ∙ whole;
+        joined = λ unlimited.
+            joins_whole longest object job format p has_format is
+            (in_columns job.query p (columns_of job.request.input longest object) is ∙ unlimited) join fails_too cuts whole;
+      }
+  by_plan format has_format (Err code) is =
+      fails_alike longest object job cuts code
+      (λ range. ap (λ f. yields_by longest f (planned_over longest object job.request.input job.query) object (request_with job.request range)) has_format
+      ∙ ap (λ q. yields_by longest (Some format) q object (request_with job.request range)) is)
+      (λ range. ap (λ f. answered_in f longest object (request_with job.request range) job.query) has_format
+      ∙ ap (answered_by format longest object (request_with job.request range)) is)
+
+  by_format : (f : Option LineFormat) → format_of job.request.input ≡ f → MakesWhole longest object job cuts
+  by_format (Some format) has_format = by_plan format has_format (planned_over longest object job.request.input job.query) refl
+  by_format None none =
+      fails_alike longest object job cuts NotBuilt
+      (λ range. ap (λ f. yields_by longest f (planned_over longest object job.request.input job.query) object (request_with job.request range)) none)
+      (λ range. ap (λ f. answered_in f longest object (request_with job.request range) job.query) none)
 
 pub each_tiling_makes_whole : EachTilingJoins → EachTilesJoin → EachTilesFail → EachTilingMakesWhole
-each_tiling_makes_whole joins join fails_too object request cuts up =
-    let tiles = sym (tiles_are object request 0 cuts) in
-    let whole : joined (all object request (tile_ranges 0 cuts)) ≡ yields_in object None = ap joined tiles ∙ joins longest_record object cuts up in
-    record {
-      records = records_are object request (tile_ranges 0 cuts) ∙ whole;
-      joined = joins_whole object request join fails_too cuts whole;
-    }
+each_tiling_makes_whole joins join fails_too longest object job cuts up = by_format joins join fails_too longest object job cuts up (format_of job.request.input) refl

@@ -1,13 +1,13 @@
 -- What each command answers: its status, by what is outside before and after it.
-use Rattle.std.specs.Prelude.{◌≡◌, ◌⊎◌, ℕ, ◌-◌, ◌<◌, ◌≤◌, List, Option, None, Some, IfSome}
+use Rattle.std.specs.Prelude.{◌≡◌, ◌⊎◌, ℕ, ◌-◌, ◌<◌, List, Option, None, Some, IfSome}
 use Rattle.std.specs.Io.KnownBytes.{Keeps}
 use Rattle.select_ports.specs.Causes.{Rose}
 use Rattle.select_tool.specs.declared.listing.Listing.{Listing}
 use Rattle.select_tool.specs.Words.{Order, selects, tiles, lists}
 use Rattle.select_tool.specs.Seen.{Outside}
 use Rattle.select_tool.specs.Input.{IsUnread}
-use Rattle.select_tool.specs.Replies.{IfTold, IsReplied, IsCutShort, IsHeld, IsLacking, NotHeldBack, Misses, TookNear, TookOnce}
-use Rattle.select_tool.specs.Tiles.{IsTiledShort, IsTiledToReply, TookNearTiles, TookOnceATile}
+use Rattle.select_tool.specs.Replies.{IfTold, IsReplied, IsCutShort, IsHeld, IsLacking, NotHeldBack, Misses, TookNear, TookTwice}
+use Rattle.select_tool.specs.Tiles.{IsTiledShort, IsTiledToReply, TookNearTiles, TookTwiceATile}
 use Rattle.select_tool.specs.Whole.{IsTiled}
 use Rattle.select_tool.specs.Listings.{IsAnswered, IsListedInPart, IsRefused, FailsInput}
 
@@ -38,40 +38,40 @@ pub record AnswersNone (status : ℕ) (before now : Outside) : Type 0 where
   pub unread : IsUnread before.input.taken now.input.taken before.input.left now.input.left
   pub unused : now.store ≡ before.store
 
--- `select NAME`
-pub record AnswersSelect (name : List ℕ) (status : ℕ) (before now : Outside) : Type 0 where
+-- `select NAME`, under a record limit
+pub record AnswersSelect (longest : ℕ) (name : List ℕ) (status : ℕ) (before now : Outside) : Type 0 where
   pub about : AnswersAbout name status before now
   -- at 0 and 1 the bytes written are the frames of the reply to the body about the object; 1 tells that it has an Error event
   pub reply : status < 2 → IfTold before.store.held before.input.left name
-      (λ object body. IsReplied object body status before.out.written now.out.written)
+      (λ object body. IsReplied longest object body status before.out.written now.out.written)
   -- at any other status nothing was written, or a front of that reply
   pub front : 1 < status → IfTold before.store.held before.input.left name
-      (λ object body. IsCutShort object body before.out.written now.out.written)
+      (λ object body. IsCutShort longest object body before.out.written now.out.written)
   -- output isn't held back: where the store failed, the whole pieces that the early records' output reaches have been written
   pub early : status ≡ 5 → IfTold before.store.held before.input.left name
-      (λ object body. NotHeldBack object body (now.store.taken - before.store.taken) before.out.written now.out.written)
+      (λ object body. NotHeldBack longest object body (now.store.taken - before.store.taken) before.out.written now.out.written)
   -- where memory was refused, nothing was written
   pub seven : status ≡ 7 → Keeps before.out.written now.out.written
-  -- no byte of the object is read twice, and little more than the range that the body asks for
-  pub taken : TookOnce now.store.current before.store.taken now.store.taken
-  pub near : IfSome before.input.left (λ body. TookNear now.store.current body before.store.taken now.store.taken)
+  -- no byte of the object is read more often than twice, and little more than the range that the body asks for
+  pub taken : TookTwice now.store.current before.store.taken now.store.taken
+  pub near : IfSome before.input.left (λ body. TookNear longest now.store.current body before.store.taken now.store.taken)
 
--- `tile NAME CUT..`
-pub record AnswersTile (name cuts : List ℕ) (status : ℕ) (before now : Outside) : Type 0 where
+-- `tile NAME CUT..`, under a record limit
+pub record AnswersTile (longest : ℕ) (name cuts : List ℕ) (status : ℕ) (before now : Outside) : Type 0 where
   pub about : AnswersAbout name status before now
   -- at 0 and 1 the bytes written are the frames of the replies to the tiles, one reply after the other; 1 tells that one of them has an
   -- Error event; the tiles have each record of the whole object once, and the replies make the reply to the whole
   pub reply : status < 2 → IfTold before.store.held before.input.left name
-      (λ object body. IsTiled object body cuts status before.out.written now.out.written)
+      (λ object body. IsTiled longest object body cuts status before.out.written now.out.written)
   -- at any other status nothing was written, or a front of those replies
   pub front : 1 < status → IfTold before.store.held before.input.left name
-      (λ object body. IsTiledShort object body cuts before.out.written now.out.written)
+      (λ object body. IsTiledShort longest object body cuts before.out.written now.out.written)
   -- where memory was refused, nothing was written, or some of the replies, each whole
   pub seven : status ≡ 7 → IfTold before.store.held before.input.left name
-      (λ object body. IsTiledToReply object body cuts before.out.written now.out.written)
-  -- no byte of the object is read twice for one tile, and little more than each tile's range
-  pub taken : TookOnceATile now.store.current cuts before.store.taken now.store.taken
-  pub near : IfSome before.input.left (λ body. TookNearTiles now.store.current body cuts before.store.taken now.store.taken)
+      (λ object body. IsTiledToReply longest object body cuts before.out.written now.out.written)
+  -- no byte of the object is read more often than twice for one tile, and little more than each tile's range
+  pub taken : TookTwiceATile now.store.current cuts before.store.taken now.store.taken
+  pub near : IfSome before.input.left (λ body. TookNearTiles longest now.store.current body cuts before.store.taken now.store.taken)
 
 -- `show` and `records`
 pub record AnswersListing (listing : Listing) (status : ℕ) (before now : Outside) : Type 0 where
@@ -98,6 +98,6 @@ pub record AnswersListing (listing : Listing) (status : ℕ) (before now : Outsi
 -- what words ask for is answered
 abbrev pub Answers : Option Order → ℕ → Outside → Outside → Type 0
 Answers None status before now = AnswersNone status before now
-Answers (Some (selects name)) status before now = AnswersSelect name status before now
-Answers (Some (tiles name cuts)) status before now = AnswersTile name cuts status before now
+Answers (Some (selects longest name)) status before now = AnswersSelect longest name status before now
+Answers (Some (tiles longest name cuts)) status before now = AnswersTile longest name cuts status before now
 Answers (Some (lists listing)) status before now = AnswersListing listing status before now

@@ -30,6 +30,6 @@ most_of_replies = longest_input + 1
 -- the most bytes that a command reads of its input
 abbrev pub most_read : Option Order → ℕ
 most_read None = 0
-most_read (Some (selects name)) = most_of_body
-most_read (Some (tiles name cuts)) = most_of_body
+most_read (Some (selects longest name)) = most_of_body
+most_read (Some (tiles longest name cuts)) = most_of_body
 most_read (Some (lists listing)) = most_of_replies

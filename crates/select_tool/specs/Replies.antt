@@ -1,76 +1,72 @@
--- What a command answers to a body about an object.
-use Rattle.std.specs.Prelude.{◌≡◌, ◌⊎◌, ℕ, ◌+◌, ◌<◌, ◌≤◌, List, [], length, Option, None, Some, IfSome, IsSome, ◌==◌, if◌then◌else◌, String}
-use Rattle.std.specs.declared.alloc.Global.{Global}
+-- What a command answers to a body about an object, under a record limit.
+use Rattle.std.specs.Prelude.{◌≡◌, ◌⊎◌, ℕ, ◌+◌, ◌*◌, ◌<◌, ◌≤◌, List, [], length, Option, None, Some, IfSome, IsSome, ◌==◌, if◌then◌else◌}
 use Rattle.std.specs.Io.KnownBytes.{Appends, Keeps}
 use Rattle.select_ports.specs.Causes.{Rose, RoseBy}
 use Rattle.select_ports.specs.Streams.{AppendsFront}
 use Rattle.select_ports.specs.Stored.{Objects, Opened, LacksName}
-use Rattle.select_engine.specs.declared.asked.Asked.{Asked}
-use Rattle.select_engine.specs.declared.asked.Asked.TheVariants.{Refused, Asks}
+use Rattle.select_job.specs.declared.asked.Asked.{Asked}
+use Rattle.select_job.specs.declared.asked.Asked.TheVariants.{Refused, Asks}
 use Rattle.select_reply.specs.declared.outcome.Outcome.{Outcome}
 use Rattle.select_reply.specs.declared.outcome.Outcome.TheVariants.{Done, Faulted}
 use Rattle.select_tool.specs.declared.trouble.Trouble.{Trouble}
 use Rattle.select_tool.specs.declared.trouble.Trouble.TheVariants.{BadWords, NoSuchKey, InputFault, OutputFault, StoreFault, OutOfMemory, BadReply}
 use Rattle.select_tool.specs.Words.{Order, selects, tiles, lists}
-use Rattle.select_engine.specs.Prepared.{Prepares}
+use Rattle.select_job.specs.Prepared.{Prepares}
 use Rattle.select_reply.specs.Events.{wrapped_frames}
-use Rattle.select_reply.specs.Replies.{outcome_of}
 use Rattle.scan_ranges.specs.Resolved.{resolved}
-use Rattle.select_engine.specs.Events.{answered, events}
-use Rattle.record_stream.specs.Selected.{first_of, most_taken}
-use Rattle.record_stream.specs.Replied.{WroteEarly}
+use Rattle.select_engine.specs.Answered.{answered, ended, events}
+use Rattle.record_stream.specs.Selected.{first_of}
+use Rattle.select_engine.specs.Jobs.{IsEarly, most_taken}
 use Rattle.select_tool.specs.Statuses.{line_of}
 
--- the record limit of the program, in bytes
-abbrev pub longest_record : ℕ
-longest_record = 1048576
-
 -- the frames of the reply to what a body asks of an object, each in its wrapping
-abbrev pub reply_frames : (List ℕ → List ℕ) → List ℕ → Asked → List ℕ
-reply_frames wrap object asked = wrapped_frames wrap (events longest_record object asked)
+abbrev pub reply_frames : (List ℕ → List ℕ) → ℕ → List ℕ → Asked → List ℕ
+reply_frames wrap longest object asked = wrapped_frames wrap (events longest object asked)
 
 -- how the reply ends: a refused body with its Error event, and a query as it is answered
-abbrev pub reply_outcome : List ℕ → Asked → Outcome
-reply_outcome object (Refused code at) = Faulted code at
-reply_outcome object (Asks request) = outcome_of (answered longest_record object request)
+abbrev pub reply_outcome : ℕ → List ℕ → Asked → Outcome
+reply_outcome longest object (Refused code at) = Faulted code at
+reply_outcome longest object (Asks job) = ended (answered longest object job.request job.query)
 
 -- the reply to a body about an object, whole: the frames of its events, and how it ends
-pub record Replied (object body : List ℕ) (outcome : Outcome) (before now : Option (List ℕ)) : Type 0 where
+pub record Replied (longest : ℕ) (object body : List ℕ) (outcome : Outcome) (before now : Option (List ℕ)) : Type 0 where
   pub asked : Asked
   pub prepared : Prepares body asked
-  pub written : Appends before now (reply_frames (λ frame. frame) object asked)
-  pub ended : outcome ≡ reply_outcome object asked
+  pub written : Appends before now (reply_frames (λ frame. frame) longest object asked)
+  pub ended : outcome ≡ reply_outcome longest object asked
 
 -- a front of the reply
-pub record RepliedInPart (object body : List ℕ) (before now : Option (List ℕ)) : Type 0 where
+pub record RepliedInPart (longest : ℕ) (object body : List ℕ) (before now : Option (List ℕ)) : Type 0 where
   pub asked : Asked
   pub prepared : Prepares body asked
-  pub written : AppendsFront before now (reply_frames (λ frame. frame) object asked)
+  pub written : AppendsFront before now (reply_frames (λ frame. frame) longest object asked)
 
 -- output isn't held back: where so many bytes of the object were read, from the first one of the range on, the whole pieces that the
 -- early records' output reaches have been written
-abbrev pub IsNotHeldBack : (List ℕ → List ℕ) → List ℕ → ℕ → Asked → Option (List ℕ) → Option (List ℕ) → Type 0
-IsNotHeldBack wrap object taken (Refused code at) before now = Unit {0}
-IsNotHeldBack wrap object taken (Asks request) before now =
-    WroteEarly wrap request.progress longest_record (first_of (resolved request.range (length object)) + taken) (answered longest_record object request) before now
+abbrev pub IsNotHeldBack : (List ℕ → List ℕ) → ℕ → List ℕ → ℕ → Asked → Option (List ℕ) → Option (List ℕ) → Type 0
+IsNotHeldBack wrap longest object taken (Refused code at) before now = Unit {0}
+IsNotHeldBack wrap longest object taken (Asks job) before now =
+    IsEarly wrap job.request.progress longest (first_of (resolved job.request.range (length object)) + taken)
+    (answered longest object job.request job.query) before now
 
 -- that of what the body asks
-abbrev pub NotHeldBack : List ℕ → List ℕ → ℕ → Option (List ℕ) → Option (List ℕ) → Type 0
-NotHeldBack object body taken before now = (asked : Asked) → Prepares body asked → IsNotHeldBack (λ frame. frame) object taken asked before now
+abbrev pub NotHeldBack : ℕ → List ℕ → List ℕ → ℕ → Option (List ℕ) → Option (List ℕ) → Type 0
+NotHeldBack longest object body taken before now = (asked : Asked) → Prepares body asked → IsNotHeldBack (λ frame. frame) longest object taken asked before now
 
--- the most bytes that are read of an object of so many bytes: little more than the range that is asked for
-abbrev pub most_read_of : ℕ → Asked → ℕ
-most_read_of size (Refused code at) = 0
-most_read_of size (Asks request) = most_taken longest_record (resolved request.range size)
+-- the most bytes that are read of an object of so many bytes: little more than the range that is asked for, and no byte twice but for a
+-- used header
+abbrev pub most_read_of : ℕ → ℕ → Asked → ℕ
+most_read_of longest size (Refused code at) = 0
+most_read_of longest size (Asks job) = most_taken longest job.request size
 
 -- no more was read of the open object than what the body asks needs
-abbrev pub TookNear : Opened → List ℕ → ℕ → ℕ → Type 0
-TookNear None body before now = now ≡ before
-TookNear (Some object) body before now = (asked : Asked) → Prepares body asked → now ≤ before + most_read_of object.0 asked
+abbrev pub TookNear : ℕ → Opened → List ℕ → ℕ → ℕ → Type 0
+TookNear longest None body before now = now ≡ before
+TookNear longest (Some object) body before now = (asked : Asked) → Prepares body asked → now ≤ before + most_read_of longest object.0 asked
 
 -- nothing was written, or a front of the reply
-abbrev pub IsCutShort : List ℕ → List ℕ → Option (List ℕ) → Option (List ℕ) → Type 0
-IsCutShort object body before now = Keeps before now ⊎ RepliedInPart object body before now
+abbrev pub IsCutShort : ℕ → List ℕ → List ℕ → Option (List ℕ) → Option (List ℕ) → Type 0
+IsCutShort longest object body before now = Keeps before now ⊎ RepliedInPart longest object body before now
 
 -- a fact of the object of a name and the body on the input, where the store tells that it holds the object and the input tells its bytes
 abbrev pub IfTold : Option Objects → Option (List ℕ) → List ℕ → (List ℕ → List ℕ → Type 0) → Type 0
@@ -82,9 +78,9 @@ status_of_outcome (Done counts) = 0
 status_of_outcome (Faulted code at) = 1
 
 -- the whole reply was written, and the status tells how it ended
-pub record IsReplied (object body : List ℕ) (status : ℕ) (before now : Option (List ℕ)) : Type 0 where
+pub record IsReplied (longest : ℕ) (object body : List ℕ) (status : ℕ) (before now : Option (List ℕ)) : Type 0 where
   pub outcome : Outcome
-  pub replied : Replied object body outcome before now
+  pub replied : Replied longest object body outcome before now
   pub told : status ≡ status_of_outcome outcome
 
 -- no object of the name was found: none is open, and the count of names that weren't found rose
@@ -93,10 +89,10 @@ pub record Misses (held : Option Objects) (name : List ℕ) (current : Opened) (
   pub none_open : current ≡ None
   pub counted : RoseBy 1 absent_before absent_now
 
--- no byte of the open object was read twice; with none open nothing was read
-abbrev pub TookOnce : Opened → ℕ → ℕ → Type 0
-TookOnce None before now = now ≡ before
-TookOnce (Some object) before now = now ≤ before + object.0
+-- no byte of the open object was read more often than twice; with none open nothing was read
+abbrev pub TookTwice : Opened → ℕ → ℕ → Type 0
+TookTwice None before now = now ≡ before
+TookTwice (Some object) before now = now ≤ before + 2 * object.0
 
 -- the cause of each trouble of a command whose words fit
 abbrev pub CauseOf : Trouble → Type 0 → Type 0 → Type 0 → Type 0 → Type 0 → Type 0 → Type 0
@@ -111,8 +107,8 @@ CauseOf (BadReply at) missing input output store memory nothing = ⊥
 -- the exit status of the words is one of the table's
 abbrev pub IsStatusOf : Option Order → ℕ → Type 0
 IsStatusOf None status = status ≡ 2
-IsStatusOf (Some (selects name)) status = (status < 6) ⊎ (status ≡ 7)
-IsStatusOf (Some (tiles name cuts)) status = (status < 6) ⊎ (status ≡ 7)
+IsStatusOf (Some (selects longest name)) status = (status < 6) ⊎ (status ≡ 7)
+IsStatusOf (Some (tiles longest name cuts)) status = (status < 6) ⊎ (status ≡ 7)
 IsStatusOf (Some (lists listing)) status = (status < 2) ⊎ (status ≡ 3) ⊎ (status ≡ 4) ⊎ (status ≡ 7) ⊎ (status ≡ 8)
 
 -- the line on the error output at any status but 8: none where the command was done

@@ -1,5 +1,5 @@
 -- The words of the commands.
-use Rattle.std.specs.Prelude.{ℕ, ◌==◌, ◌&&◌, Bool, false, nat_lt, nat_le, List, [], ◌∷◌, length, Option, None, Some, option_and_then, codes, bytes_eq, if◌then◌else◌, String}
+use Rattle.std.specs.Prelude.{ℕ, ◌==◌, ◌&&◌, ◌≤◌, Bool, false, nat_lt, nat_le, List, [], ◌∷◌, length, Option, None, Some, option_and_then, codes, bytes_eq, if◌then◌else◌, String}
 use Rattle.std.specs.Option.{option_map}
 use Rattle.std.specs.String.{string_bytes}
 use Rattle.std.specs.declared.alloc.Global.{Global}
@@ -10,11 +10,11 @@ use Rattle.select_tool.specs.declared.listing.Listing.TheVariants.{Lines, Payloa
 use Rattle.select_tool.specs.declared.words.Command.{Command}
 use Rattle.select_tool.specs.declared.words.Command.TheVariants.{Select, Tile, List as Listed}
 
--- what words ask for: the reply about the object of a name; the replies to the tiles of such an object, by these cuts; or a listing of
--- the replies on the input
+-- what words ask for: under a record limit in bytes, the reply about the object of a name; the replies to the tiles of such an object, by
+-- these cuts; or a listing of the replies on the input
 pub data Order : Type 0 where
-  selects : List ℕ → Order
-  tiles : List ℕ → List ℕ → Order
+  selects : ℕ → List ℕ → Order
+  tiles : ℕ → List ℕ → List ℕ → Order
   lists : Listing → Order
 
 -- the word of a listing
@@ -58,26 +58,57 @@ unfoldable pub cuts_of : List (String Global) → Option (List ℕ)
 cuts_of words = if is_few (length words) then cuts_above 0 words else None
 
 -- `select NAME`
-abbrev pub selection : List ℕ → List ℕ → List (String Global) → Option Order
-selection verb name [] = if bytes_eq verb (codes "select") then Some (selects name) else None
-selection verb name (word ∷ words) = None
+abbrev pub selection : ℕ → List ℕ → List ℕ → List (String Global) → Option Order
+selection longest verb name [] = if bytes_eq verb (codes "select") then Some (selects longest name) else None
+selection longest verb name (word ∷ words) = None
 
--- `select NAME`, `tile NAME CUT..`, `show` and `records`; other words are no command
+-- `select NAME` and `tile NAME CUT..`, under a record limit
+unfoldable pub about : ℕ → List (String Global) → Option Order
+about longest [] = None
+about longest (verb ∷ []) = None
+about longest (verb ∷ name ∷ words) =
+    if bytes_eq (string_bytes verb) (codes "tile") then option_map (tiles longest (string_bytes name)) (cuts_of words)
+    else selection longest (string_bytes verb) (string_bytes name) words
+
+-- the record limit where none is chosen, and the least and the largest one, in bytes
+abbrev pub longest_record : ℕ
+longest_record = 1048576
+
+abbrev pub is_limit : ℕ → Bool
+is_limit bytes = nat_le 1024 bytes && nat_le bytes 16777216
+
+-- the number that is a record limit, if it is one
+abbrev pub limit_of : Option ℕ → Option ℕ
+limit_of None = None
+limit_of (Some bytes) = if is_limit bytes then Some bytes else None
+
+abbrev pub limited : Option ℕ → List (String Global) → Option Order
+limited None words = None
+limited (Some longest) words = about longest words
+
+-- `select NAME` and `tile NAME CUT..`, with `limit BYTES` before them where a record limit is chosen; `show` and `records`. Other words
+-- are no command
 unfoldable pub ordered : List (String Global) → Option Order
 ordered [] = None
 ordered (verb ∷ []) = option_map lists (listing_of (string_bytes verb))
-ordered (verb ∷ name ∷ words) =
-    if bytes_eq (string_bytes verb) (codes "tile") then option_map (tiles (string_bytes name)) (cuts_of words)
-    else selection (string_bytes verb) (string_bytes name) words
+ordered (verb ∷ word ∷ words) =
+    if bytes_eq (string_bytes verb) (codes "limit") then limited (limit_of (number_of (string_bytes word))) words
+    else about longest_record (verb ∷ word ∷ words)
 
 -- the order of a command that was read from the words
 abbrev pub order_of : Command → Order
-order_of (Select name) = selects name.now
-order_of (Tile name cuts) = tiles name.now cuts.items
+order_of (Select limits name) = selects limits.longest name.now
+order_of (Tile limits name cuts) = tiles limits.longest name.now cuts.items
 order_of (Listed listing) = lists listing
+
+-- the record limit of a command is no larger than the largest one
+abbrev pub HasSmallLimit : Command → Type 0
+HasSmallLimit (Select limits name) = limits.longest ≤ 16777216
+HasSmallLimit (Tile limits name cuts) = limits.longest ≤ 16777216
+HasSmallLimit (Listed listing) = Unit {0}
 
 -- the cuts of a command ascend
 abbrev pub HasAscendingCuts : Command → Type 0
-HasAscendingCuts (Select name) = Unit {0}
-HasAscendingCuts (Tile name cuts) = Ascend 0 cuts.items
+HasAscendingCuts (Select limits name) = Unit {0}
+HasAscendingCuts (Tile limits name cuts) = Ascend 0 cuts.items
 HasAscendingCuts (Listed listing) = Unit {0}

@@ -7,9 +7,9 @@ ghost use Rattle.select_tool.specs.Commands.{Answers};
 ghost use Rattle.select_tool.specs.Words.{selects, tiles, lists, ordered};
 ghost use Rattle.select_tool.specs.Input.{IsUnread, most_of_body, most_of_replies, most_read};
 ghost use Rattle.select_tool.specs.Replies.{IfTold, IsReplied, IsCutShort, IsHeld, IsLacking, NotHeldBack, Misses, TookNear};
-ghost use Rattle.select_tool.specs.Replies.{TookOnce, IsStatusOf, line_of_status, status_of_outcome, WritesUnlessFaulty};
+ghost use Rattle.select_tool.specs.Replies.{TookTwice, IsStatusOf, line_of_status, status_of_outcome, WritesUnlessFaulty};
 ghost use Rattle.select_tool.specs.Statuses.{status_of, line_of};
-ghost use Rattle.select_tool.specs.Tiles.{IsTiledShort, IsTiledToReply, TookNearTiles, TookOnceATile};
+ghost use Rattle.select_tool.specs.Tiles.{IsTiledShort, IsTiledToReply, TookNearTiles, TookTwiceATile};
 ghost use Rattle.select_tool.specs.Whole.{IsTiled};
 ghost use Rattle.select_tool.specs.Listings.{IsAnswered, IsListedInPart, IsRefused, FailsInput};
 
@@ -20,7 +20,7 @@ use crate::tile::tile;
 use crate::trouble::Trouble;
 use crate::words::{Command, command_of};
 use select_engine::Outcome;
-use select_ports::{Sink, Source, Store, write_all};
+use select_ports::{Limits, Sink, Source, Store, write_all};
 use std::alloc::Global;
 
 /// Runs the command that the words say, and returns its exit status.
@@ -28,7 +28,8 @@ use std::alloc::Global;
 /// `select NAME` opens the object NAME, reads a request body from the input, and writes one reply to `out`. `tile NAME CUT..` does the
 /// same with a reply for each range between the cuts, which take the place of the body's own range: from byte 0 up to the first cut,
 /// from each cut up to the next, and from the last cut on. It takes 1 to 1,000 cuts, ascending, each from 1 to 2^63 - 1. A body that
-/// is refused, or whose object allows no ranges, is refused once.
+/// is refused, or whose object allows no ranges, is refused once. `limit BYTES` before the words of either chooses the record limit, from
+/// 1,024 to 16,777,216 bytes; without it the limit is 1,048,576.
 ///
 /// `show` reads replies from the input, and writes a line for each event: `Records N` with the number of bytes, `Cont`,
 /// `Progress S P R`, `Stats S P R`, `End` and `Error CODE MESSAGE`. The three numbers are `?` where the payload has no counts of the
@@ -92,9 +93,12 @@ pub fn run<S: Store, I: Source, O: Sink, E: Sink>(
     ensures held { S.held store.new ≡ S.held store.old }
 {
     match command_of(words) {
-        Some(Command::Select(name)) => run_select(alloc, name, store, input, out, err),
-        Some(Command::Tile(name, cuts)) => run_tile(
+        Some(Command::Select(limits, name)) => {
+            run_select(alloc, limits, name, store, input, out, err)
+        }
+        Some(Command::Tile(limits, name, cuts)) => run_tile(
             alloc,
+            limits,
             name,
             cuts.as_slice(),
             store,
@@ -110,18 +114,20 @@ pub fn run<S: Store, I: Source, O: Sink, E: Sink>(
 // The command `select NAME`.
 fn run_select<S: Store, I: Source, O: Sink, E: Sink>(
     alloc: Global,
+    limits: Limits,
     name: &str,
     store: &mut S,
     input: &mut I,
     out: &mut O,
     err: &mut E,
 ) -> u8
+    requires { limits.longest ≤ 16777216 }
     ensures reply { result < 2 → IfTold (S.held store.old) (I.left input.old) name.now
-        (λ object body. IsReplied object body result (O.written out.old) (O.written out.new)) }
+        (λ object body. IsReplied limits.longest object body result (O.written out.old) (O.written out.new)) }
     ensures front { 1 < result → IfTold (S.held store.old) (I.left input.old) name.now
-        (λ object body. IsCutShort object body (O.written out.old) (O.written out.new)) }
+        (λ object body. IsCutShort limits.longest object body (O.written out.old) (O.written out.new)) }
     ensures early { result ≡ 5 → IfTold (S.held store.old) (I.left input.old) name.now
-        (λ object body. NotHeldBack object body (S.taken store.new - S.taken store.old) (O.written out.old) (O.written out.new)) }
+        (λ object body. NotHeldBack limits.longest object body (S.taken store.new - S.taken store.old) (O.written out.old) (O.written out.new)) }
     ensures only { (result < 6) ⊎ (result ≡ 7) }
     ensures two { result ≡ 2 → Keeps (O.written out.old) (O.written out.new)
         × IsUnread (I.taken input.old) (I.taken input.new) (I.left input.old) (I.left input.new)
@@ -138,13 +144,13 @@ fn run_select<S: Store, I: Source, O: Sink, E: Sink>(
         → ¬ (Rose (O.faults out.old) (O.faults out.new))
         → (result < 2) ⊎ (result ≡ 7) }
     ensures line { WritesUnlessFaulty (E.faults err.old) (E.faults err.new) (E.written err.old) (E.written err.new)
-        (line_of_status (Some (selects name.now)) result) }
-    ensures taken { TookOnce (S.current store.new) (S.taken store.old) (S.taken store.new) }
-    ensures near { IfSome (I.left input.old) (λ body. TookNear (S.current store.new) body (S.taken store.old) (S.taken store.new)) }
+        (line_of_status (Some (selects limits.longest name.now)) result) }
+    ensures taken { TookTwice (S.current store.new) (S.taken store.old) (S.taken store.new) }
+    ensures near { IfSome (I.left input.old) (λ body. TookNear limits.longest (S.current store.new) body (S.taken store.old) (S.taken store.new)) }
     ensures input_taken { I.taken input.new ≤ I.taken input.old + most_of_body }
     ensures held { S.held store.new ≡ S.held store.old }
 {
-    match select(alloc, name, store, input, out) {
+    match select(alloc, limits, name, store, input, out) {
         Ok(outcome) => status_when_done(&outcome),
         Err(trouble) => report(err, trouble),
     }
@@ -153,6 +159,7 @@ fn run_select<S: Store, I: Source, O: Sink, E: Sink>(
 // The command `tile NAME CUT..`.
 fn run_tile<S: Store, I: Source, O: Sink, E: Sink>(
     alloc: Global,
+    limits: Limits,
     name: &str,
     cuts: &[u64],
     store: &mut S,
@@ -160,11 +167,12 @@ fn run_tile<S: Store, I: Source, O: Sink, E: Sink>(
     out: &mut O,
     err: &mut E,
 ) -> u8
-    requires { Ascend 0 cuts.now }
+    requires ascend { Ascend 0 cuts.now }
+    requires small { limits.longest ≤ 16777216 }
     ensures reply { result < 2 → IfTold (S.held store.old) (I.left input.old) name.now
-        (λ object body. IsTiled object body cuts.now result (O.written out.old) (O.written out.new)) }
+        (λ object body. IsTiled limits.longest object body cuts.now result (O.written out.old) (O.written out.new)) }
     ensures front { 1 < result → IfTold (S.held store.old) (I.left input.old) name.now
-        (λ object body. IsTiledShort object body cuts.now (O.written out.old) (O.written out.new)) }
+        (λ object body. IsTiledShort limits.longest object body cuts.now (O.written out.old) (O.written out.new)) }
     ensures only { (result < 6) ⊎ (result ≡ 7) }
     ensures two { result ≡ 2 → Keeps (O.written out.old) (O.written out.new)
         × IsUnread (I.taken input.old) (I.taken input.new) (I.left input.old) (I.left input.new)
@@ -175,21 +183,21 @@ fn run_tile<S: Store, I: Source, O: Sink, E: Sink>(
     ensures four { result ≡ 4 → Rose (O.faults out.old) (O.faults out.new) }
     ensures five { result ≡ 5 → Rose (S.faults store.old) (S.faults store.new) }
     ensures seven { result ≡ 7 → IfTold (S.held store.old) (I.left input.old) name.now
-        (λ object body. IsTiledToReply object body cuts.now (O.written out.old) (O.written out.new)) }
+        (λ object body. IsTiledToReply limits.longest object body cuts.now (O.written out.old) (O.written out.new)) }
     ensures complete { IsHeld (S.held store.old) name.now
         → ¬ (Rose (S.faults store.old) (S.faults store.new))
         → ¬ (Rose (I.faults input.old) (I.faults input.new))
         → ¬ (Rose (O.faults out.old) (O.faults out.new))
         → (result < 2) ⊎ (result ≡ 7) }
     ensures line { WritesUnlessFaulty (E.faults err.old) (E.faults err.new) (E.written err.old) (E.written err.new)
-        (line_of_status (Some (tiles name.now cuts.now)) result) }
-    ensures taken { TookOnceATile (S.current store.new) cuts.now (S.taken store.old) (S.taken store.new) }
+        (line_of_status (Some (tiles limits.longest name.now cuts.now)) result) }
+    ensures taken { TookTwiceATile (S.current store.new) cuts.now (S.taken store.old) (S.taken store.new) }
     ensures near { IfSome (I.left input.old)
-        (λ body. TookNearTiles (S.current store.new) body cuts.now (S.taken store.old) (S.taken store.new)) }
+        (λ body. TookNearTiles limits.longest (S.current store.new) body cuts.now (S.taken store.old) (S.taken store.new)) }
     ensures input_taken { I.taken input.new ≤ I.taken input.old + most_of_body }
     ensures held { S.held store.new ≡ S.held store.old }
 {
-    match tile(alloc, name, cuts, store, input, out) {
+    match tile(alloc, limits, name, cuts, store, input, out) {
         Ok(erred) => u8::from(erred),
         Err(trouble) => report(err, trouble),
     }

@@ -2,21 +2,29 @@
 ghost use Rattle.std.specs.Prelude.{◌≡◌, ◌≤◌, true, length, IfSome};
 ghost use Rattle.std.specs.Option.{option_map};
 ghost use Rattle.select_tool.specs.Words.{tiles, ordered, order_of, has_leading_zero, number_of, above, is_few, cuts_above};
-ghost use Rattle.select_tool.specs.Words.{cuts_of, HasAscendingCuts};
+ghost use Rattle.select_tool.specs.Words.{cuts_of, HasAscendingCuts, HasSmallLimit, about, is_limit, limit_of, limited};
 
 use crate::listing::Listing;
 use arrayvec::ArrayVec;
+use select_ports::Limits;
 use select_request::whole_number;
 
 /// The most cuts of a tiling.
 const MOST_CUTS: usize = 1000;
 
+/// The record limit where none is chosen, and the least and the largest one, in bytes.
+const LONGEST_RECORD: usize = 1_048_576;
+
+const LEAST_LIMIT: u64 = 1024;
+
+const LARGEST_LIMIT: u64 = 16_777_216;
+
 /// A command.
 pub(crate) enum Command<'w> {
-    /// `select NAME`: the reply about the object of this name.
-    Select(&'w str),
-    /// `tile NAME CUT..`: the replies to the tiles of that object between these cuts, which are bytes of it.
-    Tile(&'w str, ArrayVec<u64, MOST_CUTS>),
+    /// `select NAME`: the reply about the object of this name, under a record limit.
+    Select(Limits, &'w str),
+    /// `tile NAME CUT..`: the replies to the tiles of that object between these cuts, which are bytes of it, under a record limit.
+    Tile(Limits, &'w str, ArrayVec<u64, MOST_CUTS>),
     /// `show` and `records`: what is listed of the replies on the input.
     List(Listing),
 }
@@ -26,23 +34,80 @@ pub(crate) enum Command<'w> {
 pub(crate) fn command_of(words: &[String]) -> Option<Command<'_>>
     ensures order { option_map order_of result ≡ ordered words.now }
     ensures ascend { IfSome result HasAscendingCuts }
+    ensures small { IfSome result HasSmallLimit }
 {
     match words {
         [verb] if verb.as_str() == "show" => Some(Command::List(Listing::Lines)),
         [verb] if verb.as_str() == "records" => Some(Command::List(Listing::Payloads)),
-        [verb, name, cuts @ ..] if verb.as_str() == "tile" => tiling_of(name.as_str(), cuts),
-        [verb, name] if verb.as_str() == "select" => Some(Command::Select(name.as_str())),
+        [verb, bytes, words @ ..] if verb.as_str() == "limit" => limited(bytes.as_str(), words),
+        [_, _, ..] => about(
+            Limits {
+                longest: LONGEST_RECORD,
+            },
+            words,
+        ),
+        _ => None,
+    }
+}
+
+// The command that the words behind `limit BYTES` say.
+fn limited<'w>(bytes: &str, words: &'w [String]) -> Option<Command<'w>>
+    ensures order { option_map order_of result ≡ limited (limit_of (number_of bytes.now)) words.now }
+    ensures ascend { IfSome result HasAscendingCuts }
+    ensures small { IfSome result HasSmallLimit }
+{
+    match limit_of(number(bytes)) {
+        Some(limits) => about(limits, words),
+        None => None,
+    }
+}
+
+// The number as a record limit, where it is one.
+fn limit_of(number: Option<u64>) -> Option<Limits>
+    ensures limit { option_map (λ limits. limits.longest) result ≡ limit_of number }
+    ensures small { IfSome result (λ limits. limits.longest ≤ 16777216) }
+{
+    match number {
+        Some(bytes) if is_limit(bytes) => Some(Limits {
+            longest: bytes as usize,
+        }),
+        _ => None,
+    }
+}
+
+fn is_limit(bytes: u64) -> bool
+    ensures is { result ≡ is_limit bytes }
+    ensures small { result ≡ true → bytes ≤ 16777216 }
+{
+    LEAST_LIMIT <= bytes && bytes <= LARGEST_LIMIT
+}
+
+// The command about an object that the words say, under a record limit.
+#[tactic(auto, unfolding(crate::specs::Words::about))]
+fn about(limits: Limits, words: &[String]) -> Option<Command<'_>>
+    requires { limits.longest ≤ 16777216 }
+    ensures order { option_map order_of result ≡ about limits.longest words.now }
+    ensures ascend { IfSome result HasAscendingCuts }
+    ensures small { IfSome result HasSmallLimit }
+{
+    match words {
+        [verb, name, cuts @ ..] if verb.as_str() == "tile" => {
+            tiling_of(limits, name.as_str(), cuts)
+        }
+        [verb, name] if verb.as_str() == "select" => Some(Command::Select(limits, name.as_str())),
         _ => None,
     }
 }
 
 // The tiling of the object of this name that the words behind it say.
-fn tiling_of<'w>(name: &'w str, words: &[String]) -> Option<Command<'w>>
-    ensures order { option_map order_of result ≡ option_map (tiles name.now) (cuts_of words.now) }
+fn tiling_of<'w>(limits: Limits, name: &'w str, words: &[String]) -> Option<Command<'w>>
+    requires { limits.longest ≤ 16777216 }
+    ensures order { option_map order_of result ≡ option_map (tiles limits.longest name.now) (cuts_of words.now) }
     ensures ascend { IfSome result HasAscendingCuts }
+    ensures small { IfSome result HasSmallLimit }
 {
     match cuts_of(words) {
-        Some(cuts) => Some(Command::Tile(name, cuts)),
+        Some(cuts) => Some(Command::Tile(limits, name, cuts)),
         None => None,
     }
 }

@@ -5,4 +5,7 @@ pub mod VarintLaws
 pub mod ItemLaws
 pub mod ValueLaws
 pub mod RunLaws
+pub mod TreeRuns
+pub mod TreeBuilt
+pub mod TreeCalls
 pub mod Clauses

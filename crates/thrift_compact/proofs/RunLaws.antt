@@ -96,12 +96,12 @@ value_step_due already member k nest bytes next taken rest fits e due =
         let P : List Open → Type 0 = λ y. Due already y rest in
         rw (← len) (value_due already (already + length nest) member k nest o (take n bytes) rest refl opened (subst P (sym nest_is) due))
 
-bytes_behind : (bytes : List ℕ) (n : ℕ) → IsBytes bytes → IsBytes (drop n bytes)
+pub bytes_behind : (bytes : List ℕ) (n : ℕ) → IsBytes bytes → IsBytes (drop n bytes)
 bytes_behind bytes zero fits = fits
 bytes_behind [] (suc n) fits = fits
 bytes_behind (b ∷ bytes) (suc n) fits = bytes_behind bytes n (λ i. fits (suc i))
 
-behind_ok : {X : Type 0} (k : ℕ) (item : Item X) (x : X) (n : ℕ) → behind k item ≡ Ok (x, n) → (m : ℕ) × (item ≡ Ok (x, m)) × (k + m ≡ n)
+pub behind_ok : {X : Type 0} (k : ℕ) (item : Item X) (x : X) (n : ℕ) → behind k item ≡ Ok (x, n) → (m : ℕ) × (item ≡ Ok (x, m)) × (k + m ≡ n)
 behind_ok k (Ok y) x n e =
     let same = ok_same _ _ refl e in
     let value_is : y.0 ≡ x = ap (λ p. p.0) same in
@@ -205,14 +205,14 @@ passes_one already member k bytes at a b p q = go (value_at already member k (dr
     go (Ok (Some o, taken)) p q = one_answer p q
 
 -- behind the first of the members that a header opens
-ended_members : (first next : Kind) (n : ℕ) (nest : List Open) → 0 < n → ended (Members first next n ∷ nest) ≡ with_opened (members next first (n - 1)) nest
+pub ended_members : (first next : Kind) (n : ℕ) (nest : List Open) → 0 < n → ended (Members first next n ∷ nest) ≡ with_opened (members next first (n - 1)) nest
 ended_members first next n nest some = go (nat_le n 1) refl
   where
     go : (t : Bool) → nat_le n 1 ≡ t → cond t (ended nest) (Members next first (n - 1) ∷ nest) ≡ with_opened (members next first (n - 1)) nest
     go true h = let none : nat_eq (n - 1) 0 ≡ true = let few = leb-true _ _ h in grind (arith, nat_tests) in rw none refl
     go false h = let more : nat_eq (n - 1) 0 ≡ false = let many = leb-false _ _ h in grind (arith, nat_tests) in rw more refl
 
-opens_some : (first next : Kind) (n : ℕ) → 0 < n → members first next n ≡ Some (Members first next n)
+pub opens_some : (first next : Kind) (n : ℕ) → 0 < n → members first next n ≡ Some (Members first next n)
 opens_some first next n some = let more : nat_eq n 0 ≡ false = grind (arith, nat_tests) in rw more refl
 
 -- a value's step, behind which the answer comes

@@ -5,3 +5,4 @@ pub mod Opens
 pub mod Runs
 pub mod States
 pub mod Grammar
+pub mod Trees

@@ -1,6 +1,6 @@
 //! The items that are read one at a time: numbers, headers and byte lists.
 ghost use Rattle.std.specs.Prelude.{◌≡◌, ◌≤◌, ◌<◌, ◌^◌, ◌-◌, length, FitsSigned, IfOk, IfErr, IfSome, Ok, Err};
-ghost use Rattle.std.specs.Int.{w64};
+ghost use Rattle.std.specs.Int.{w16, w64};
 ghost use Rattle.thrift_compact.specs.Varints.{zigzag};
 ghost use Rattle.thrift_compact.specs.Items.{byte_at, signed_at, number_at, header_at, list_header_at, map_header_at, byte_list_at, number_after};
 
@@ -63,6 +63,7 @@ pub(crate) fn number_of(kind: Kind, bytes: &[u8]) -> Result<(i64, usize), Thrift
 #[tactic(auto, unfolding(crate::specs::Items::list_header_at))]
 pub(crate) fn list_header_of(bytes: &[u8]) -> Result<((Kind, u32), usize), ThriftFault>
     ensures exact { result ≡ list_header_at bytes.now }
+    ensures size { IfOk result (λ x. x.0.1 < 2 ^ 31) }
     ensures bound { IfOk result (λ x. x.1 ≤ length bytes.now) }
     ensures place { IfErr result (λ f. f.at ≤ length bytes.now) }
     ensures some { IfOk result (λ x. 0 < x.1) }
@@ -121,6 +122,7 @@ pub(crate) fn byte_list_of(bytes: &[u8]) -> Result<(&[u8], usize), ThriftFault>
 }
 
 fn field_number_of(bytes: &[u8]) -> Result<(i16, usize), ThriftFault>
+    ensures range { IfOk result (λ x. FitsSigned w16 x.0) }
     ensures exact { result ≡ signed_at (2 ^ 16 - 1) bytes.now }
     ensures bound { IfOk result (λ x. x.1 ≤ length bytes.now) }
     ensures place { IfErr result (λ f. f.at ≤ length bytes.now) }
@@ -138,6 +140,7 @@ pub(crate) fn header_of(
     bytes: &[u8],
 ) -> Result<(Option<(i16, Kind)>, usize), ThriftFault>
     ensures exact { result ≡ header_at last bytes.now }
+    ensures range { IfOk result (λ x. IfSome x.0 (λ f. FitsSigned w16 f.0)) }
     ensures bound { IfOk result (λ x. x.1 ≤ length bytes.now) }
     ensures place { IfErr result (λ f. f.at ≤ length bytes.now) }
     ensures some { IfOk result (λ x. 0 < x.1) }
@@ -162,7 +165,8 @@ pub(crate) fn header_of(
 }
 
 fn number_after(last: i16, delta: u8) -> Result<i16, ThriftFault>
-    ensures { result ≡ number_after last delta }
+    ensures range { IfOk result (λ n. FitsSigned w16 n) }
+    ensures exact { result ≡ number_after last delta }
 {
     let number = i32::from(last) + i32::from(delta);
     if number > 32767 {

@@ -9,9 +9,11 @@ mod number;
 mod reader;
 mod skipping;
 mod stack;
+mod trees;
 mod values;
 
 pub use crate::faults::{ThriftFault, ThriftFaultCode};
 pub use crate::kinds::Kind;
 pub use crate::number::varint;
 pub use crate::reader::Reader;
+pub use crate::trees::bytes_have_a_tree;

@@ -1,5 +1,5 @@
 //! The reader.
-ghost use Rattle.std.specs.Prelude.{◌≡◌, ◌≤◌, ◌<◌, ◌+◌, length, IfOk, IfErr, IfSome, OnOk, OnErr, IsSome, Some, None, Ok, Err, Option, Result, List, ℤ, ℕ, ◌∷◌, pos};
+ghost use Rattle.std.specs.Prelude.{true, FitsSigned, ◌^◌, ◌-◌, ◌≡◌, ◌≤◌, ◌<◌, ◌+◌, length, IfOk, IfErr, IfSome, OnOk, OnErr, IsSome, Some, None, Ok, Err, Option, Result, List, ℤ, ℕ, ◌∷◌, pos};
 ghost use Rattle.thrift_compact.specs.Runs.{placed, Passes};
 ghost use Rattle.thrift_compact.specs.States.{over_bytes, faulted, CanReadField, MovesOn, field_answer, int_answer, bytes_answer, list_answer, enter_answer, SkipAnswer, given_bytes, if_room, left, Takes, SpellsValue, SkipsTo, skipped};
 ghost use Rattle.thrift_compact.specs.declared.faults.ThriftFault.{ThriftFault};
@@ -7,6 +7,9 @@ ghost use Rattle.thrift_compact.specs.Varints.{IsBytes};
 ghost use Rattle.thrift_compact.specs.Grammar.{SpellsHeader, SpellsNumber, SpellsByteList, SpellsListHeader, NoFront};
 ghost use Rattle.thrift_compact.specs.declared.kinds.Kind.{Kind};
 ghost use Rattle.thrift_compact.specs.Items.{list_header_at, then_read, members};
+ghost use Rattle.std.specs.Int.{w16, w64};
+ghost use Rattle.thrift_compact.specs.Trees.{Datum, FieldList, IsDatum, AtDatum, AtFields, is_number, header_in, number_in, bytes_in, list_in, enter_in, skip_in, answered, BehindHeader, BehindList, BehindEnter};
+ghost use Rattle.thrift_compact.specs.declared.kinds.Kind.TheVariants as kind;
 ghost use Rattle.thrift_compact.specs.Opens.{last_number, in_members, ended, with_opened, after_header};
 
 use crate::faults::{ThriftFault, ThriftFaultCode, fault_at};
@@ -89,7 +92,8 @@ impl<'r> Reader<'r> {
     pub fn field(&mut self) -> Result<Option<(i16, Kind)>, ThriftFault>
         requires { CanReadField self.old }
         ensures found { IfOk result (λ h. Takes (SpellsHeader (last_number self.old.nesting) h) self.old self.new) }
-        ensures refused { OnErr result (self.old.fault ≡ None → (h : Option (ℤ × Kind)) → NoFront (SpellsHeader (last_number self.old.nesting) h) (left self.old)) }
+        ensures refused { OnErr result (self.old.fault ≡ None → (h : Option (ℤ × Kind))
+            → NoFront (SpellsHeader (last_number self.old.nesting) h) (left self.old)) }
         ensures sticky { IfSome self.old.fault (λ f. (result ≡ Err f) × (self.new ≡ self.old)) }
         ensures nesting { IfOk result (λ h. self.new.nesting ≡ after_header h self.old.nesting) }
         ensures fault { IfErr result (λ f. self.new.fault ≡ Some f) }
@@ -97,6 +101,10 @@ impl<'r> Reader<'r> {
         ensures exact { (result, self.new) ≡ field_answer self.old }
         ensures moves { MovesOn self.old self.new }
         ensures taken { OnOk result (self.old.at < self.new.at) }
+        ensures range { IfOk result (λ h. IfSome h (λ f. FitsSigned w16 f.0)) }
+        ensures sound { OnOk result (self.new.fault ≡ None) }
+        ensures seen { (fields : FieldList) (answer : Result ℕ ThriftFault) → AtFields self.old fields answer
+            → (result ≡ header_in fields) × BehindHeader fields answer self.old self.new }
     {
         if let Some(fault) = self.fault {
             return Err(fault);
@@ -115,7 +123,8 @@ impl<'r> Reader<'r> {
     #[tactic(auto, unfolding(crate::specs::States::int_answer))]
     pub fn int(&mut self, kind: Kind) -> Result<i64, ThriftFault>
         ensures found { IfOk result (λ n. Takes (SpellsNumber kind n) self.old self.new) }
-        ensures refused { OnErr result (self.old.fault ≡ None → (n : ℤ) → NoFront (SpellsNumber kind n) (left self.old)) }
+        ensures refused { OnErr result (self.old.fault ≡ None → (n : ℤ)
+            → NoFront (SpellsNumber kind n) (left self.old)) }
         ensures sticky { IfSome self.old.fault (λ f. (result ≡ Err f) × (self.new ≡ self.old)) }
         ensures nesting { OnOk result (self.new.nesting ≡ ended self.old.nesting) }
         ensures fault { IfErr result (λ f. self.new.fault ≡ Some f) }
@@ -123,6 +132,10 @@ impl<'r> Reader<'r> {
         ensures exact { (result, self.new) ≡ int_answer kind self.old }
         ensures moves { MovesOn self.old self.new }
         ensures taken { OnOk result (self.old.at < self.new.at) }
+        ensures range { IfOk result (λ n. FitsSigned w64 n) }
+        ensures sound { OnOk result (self.new.fault ≡ None) }
+        ensures seen { is_number kind ≡ true → (d : Datum) (answer : Result ℕ ThriftFault) → AtDatum kind self.old d answer
+            → (result ≡ number_in d) × (answer ≡ answered result self.new) }
     {
         if let Some(fault) = self.fault {
             return Err(fault);
@@ -141,7 +154,8 @@ impl<'r> Reader<'r> {
     #[tactic(auto, unfolding(crate::specs::States::bytes_answer))]
     pub fn bytes(&mut self) -> Result<&'r [u8], ThriftFault>
         ensures found { IfOk result (λ list. Takes (SpellsByteList list.now) self.old self.new) }
-        ensures refused { OnErr result (self.old.fault ≡ None → (list : List ℕ) → NoFront (SpellsByteList list) (left self.old)) }
+        ensures refused { OnErr result (self.old.fault ≡ None → (list : List ℕ)
+            → NoFront (SpellsByteList list) (left self.old)) }
         ensures sticky { IfSome self.old.fault (λ f. (result ≡ Err f) × (self.new ≡ self.old)) }
         ensures nesting { OnOk result (self.new.nesting ≡ ended self.old.nesting) }
         ensures fault { IfErr result (λ f. self.new.fault ≡ Some f) }
@@ -149,6 +163,9 @@ impl<'r> Reader<'r> {
         ensures exact { (given_bytes (λ r. r.now) result, self.new) ≡ bytes_answer self.old }
         ensures moves { MovesOn self.old self.new }
         ensures taken { OnOk result (self.old.at < self.new.at) }
+        ensures sound { OnOk result (self.new.fault ≡ None) }
+        ensures seen { (d : Datum) (answer : Result ℕ ThriftFault) → AtDatum kind.Binary self.old d answer
+            → (given_bytes (λ r. r.now) result ≡ bytes_in d) × (answer ≡ answered result self.new) }
     {
         if let Some(fault) = self.fault {
             return Err(fault);
@@ -169,13 +186,18 @@ impl<'r> Reader<'r> {
     pub fn list(&mut self) -> Result<(Kind, u32), ThriftFault>
         ensures found { IfOk result (λ h. Takes (SpellsListHeader h) self.old self.new) }
         ensures room { OnOk result (length self.old.nesting < 32) }
-        ensures refused { OnErr result (self.old.fault ≡ None → length self.old.nesting < 32 → (h : Kind × ℕ) → NoFront (SpellsListHeader h) (left self.old)) }
+        ensures refused { OnErr result (self.old.fault ≡ None → length self.old.nesting < 32 → (h : Kind × ℕ)
+            → NoFront (SpellsListHeader h) (left self.old)) }
         ensures sticky { IfSome self.old.fault (λ f. (result ≡ Err f) × (self.new ≡ self.old)) }
         ensures nesting { IfOk result (λ h. self.new.nesting ≡ with_opened (members h.0 h.0 h.1) self.old.nesting) }
         ensures fault { IfErr result (λ f. self.new.fault ≡ Some f) }
         ensures exact { (result, self.new) ≡ list_answer self.old }
         ensures moves { MovesOn self.old self.new }
         ensures taken { OnOk result (self.old.at < self.new.at) }
+        ensures range { IfOk result (λ h. h.1 < 2 ^ 31) }
+        ensures sound { OnOk result (self.new.fault ≡ None) }
+        ensures seen { (d : Datum) (answer : Result ℕ ThriftFault) → AtDatum kind.List self.old d answer
+            → (result ≡ list_in d) × BehindList d answer self.old self.new }
     {
         if let Some(fault) = self.fault {
             return Err(fault);
@@ -201,6 +223,9 @@ impl<'r> Reader<'r> {
         ensures again { CanReadField self.new }
         ensures exact { (result, self.new) ≡ enter_answer self.old }
         ensures moves { MovesOn self.old self.new }
+        ensures sound { OnOk result (self.new.fault ≡ None) }
+        ensures seen { (d : Datum) (answer : Result ℕ ThriftFault) → AtDatum kind.Struct self.old d answer
+            → (result ≡ enter_in d) × BehindEnter d answer self.new }
     {
         if let Some(fault) = self.fault {
             return Err(fault);
@@ -222,8 +247,12 @@ impl<'r> Reader<'r> {
         ensures fault { IfErr result (λ f. self.new.fault ≡ Some f) }
         ensures again { CanReadField self.old → CanReadField self.new }
         ensures exact { SkipAnswer kind self.old (result, self.new) }
-        ensures only { self.old.fault ≡ None → (to : Result ℕ ThriftFault) → SkipsTo kind self.old to → (result, self.new) ≡ skipped self.old to }
+        ensures only { self.old.fault ≡ None → (to : Result ℕ ThriftFault) → SkipsTo kind self.old to
+            → (result, self.new) ≡ skipped self.old to }
         ensures moves { MovesOn self.old self.new }
+        ensures sound { OnOk result (self.new.fault ≡ None) }
+        ensures seen { (d : Datum) (answer : Result ℕ ThriftFault) → AtDatum kind self.old d answer
+            → (result ≡ skip_in d) × (answer ≡ answered result self.new) }
     {
         if let Some(fault) = self.fault {
             return Err(fault);
@@ -267,6 +296,7 @@ fn list_of(already: usize, bytes: &[u8]) -> Result<((Kind, u32), usize), ThriftF
     ensures some { IfOk result (λ x. 0 < x.1) }
     ensures bound { IfOk result (λ x. x.1 ≤ length bytes.now) }
     ensures place { IfErr result (λ f. f.at ≤ length bytes.now) }
+    ensures size { IfOk result (λ x. x.0.1 < 2 ^ 31) }
     ensures room { IfOk result (λ _. already < 32) }
 {
     let header = list_header_of(bytes)?;

@@ -47,7 +47,7 @@ returns-in-Err-clause-reply g c = λ object tells holds.
     c.turns.window c.turns.reply _ _ (c.turns.invariant.told object tells holds)
 
 pub returns-in-Err-clause-early : goal.returns-in-Err-clause-early
-returns-in-Err-clause-early g c = λ object spent few tells holds is.
+returns-in-Err-clause-early g c = λ object upto tells holds few is.
     let law = c.replies_grow_by_records.ensures in
     let i = c.turns.invariant in
     let t = c.next.follows.holds-at-none in
@@ -61,7 +61,7 @@ returns-in-Err-clause-early g c = λ object spent few tells holds is.
     let rules = rules_stay _ _ _ i.rules t.rules in
     wrote_early law.begins law.extends g.K.FrameSink.wrap reply.progress reply.left lines window.longest _ object (left object window) w c.turns.reply _ _
     (stream_stays (asking g.K.FrameSink.wrap reply.progress reply.left lines window.longest) object (left object window) c.turns.window w c.turns.reply _ _ s still.0 still.1)
-    (read_near w window.longest _ spent t.sound rules.longest few (omega (arith, read, c.requires.near, t.forward, i.forward)))
+    (read_near w window.longest upto t.sound rules.longest (omega (arith, few, read, c.requires.near, t.forward, i.forward)))
 
 pub turns-preserved : goal.turns-preserved
 turns-preserved g c =

@@ -1,4 +1,4 @@
-use Rattle.std.proofs.Common.{◌≡◌, ◌+◌, ◌-◌, length, [], sym, ap, ◌∙◌, subst, arith, List}
+use Rattle.std.proofs.Common.{◌≡◌, ◌≤◌, ◌+◌, ◌-◌, length, [], sym, ap, ◌∙◌, subst, arith, List}
 use Rattle.line_window.specs.Cuts.{Cut}
 use Rattle.line_window.specs.Sliding.{Tells, left}
 use Rattle.scan_ranges.specs.Resolved.{resolved}
@@ -52,7 +52,7 @@ returns-clause-reply g c = λ object tells.
     (c.answer_lines.ensures.reply object still (sought.holds object size))))
 
 pub returns-clause-early : goal.returns-clause-early
-returns-clause-early g c = λ object spent few tells failed.
+returns-clause-early g c = λ object upto tells few failed.
     let reply = c.args.reply.now in
     let window = c.args.window.now in
     let lines = g.Y.LineYields.lines c.args.lines.now in
@@ -71,11 +71,12 @@ returns-clause-early g c = λ object spent few tells failed.
     let old = g.K.FrameSink.written c.args.out.now in
     let new = g.K.FrameSink.written c.answer_lines.new.out in
     let now = g.S.Store.taken c.answer_lines.new.store in
-    let upto : c.seek.new.self.place + (spent + (now - g.S.Store.taken c.seek.new.store)) ≡ first + (spent + (now - g.S.Store.taken c.args.store.now)) =
-    ap (λ t. c.seek.new.self.place + (spent + (now - t))) before ∙ ap (λ p. p + (spent + (now - g.S.Store.taken c.args.store.now))) (sought.place ∙ sym from) in
-    subst (λ (l : List Yielded). WroteEarly w reply.progress window.longest (first + (spent + (now - g.S.Store.taken c.args.store.now))) l old new) (sym some)
-    (subst (λ (l : List Cut). WroteEarly w reply.progress window.longest (first + (spent + (now - g.S.Store.taken c.args.store.now))) (processed reply.left (yields_of lines window.longest l)) old new)
+    let near : upto ≤ c.seek.new.self.place + (c.seek.new.self.longest + 65538 + (now - g.S.Store.taken c.seek.new.store)) =
+    subst (λ p. upto ≤ p + (c.seek.new.self.longest + 65538 + (now - g.S.Store.taken c.seek.new.store))) (from ∙ sym sought.place)
+    (subst (λ n. upto ≤ first + (n + 65538 + (now - g.S.Store.taken c.seek.new.store))) (sym sought.longest)
+    (subst (λ t. upto ≤ first + (window.longest + 65538 + (now - t))) (sym before) few)) in
+    subst (λ (l : List Yielded). WroteEarly w reply.progress window.longest upto l old new) (sym some)
+    (subst (λ (l : List Cut). WroteEarly w reply.progress window.longest upto (processed reply.left (yields_of lines window.longest l)) old new)
     (sought.cuts object)
-    (subst (λ n. WroteEarly w reply.progress n (first + (spent + (now - g.S.Store.taken c.args.store.now))) (processed reply.left (yields_of lines n (left object c.seek.new.self))) old new) sought.longest
-    (subst (λ u. WroteEarly w reply.progress c.seek.new.self.longest u (processed reply.left (yields_of lines c.seek.new.self.longest (left object c.seek.new.self))) old new) upto
-    (c.answer_lines.ensures.early object spent (rw sought.longest few) still (sought.holds object size) failed))))
+    (subst (λ n. WroteEarly w reply.progress n upto (processed reply.left (yields_of lines n (left object c.seek.new.self))) old new) sought.longest
+    (c.answer_lines.ensures.early object upto still (sought.holds object size) near failed)))

@@ -1,4 +1,4 @@
-use Rattle.std.proofs.Common.{◌≡◌, ℕ, List, Option, Some, None, ap, sym, ◌∙◌, refl, subst}
+use Rattle.std.proofs.Common.{◌≡◌, ℕ, List, Option, Some, ap, sym, ◌∙◌, refl, subst}
 use Rattle.std.specs.Option.{option_map}
 use Rattle.select_tool.specs.Commands.{Answers}
 use Rattle.select_tool.specs.Seen.{Outside}
@@ -11,10 +11,10 @@ given order is status before now chosen holds = subst (λ (o : Option Order). An
 pub returns-in-Some-Select-clause-answers : goal.returns-in-Some-Select-clause-answers
 returns-in-Some-Select-clause-answers g c =
     let s = c.in-Some-Select in
-    let chosen : ordered c.args.words.now ≡ Some (selects s.name.now) =
+    let chosen : ordered c.args.words.now ≡ Some (selects s.limits.longest s.name.now) =
     sym c.command_of.ensures.order ∙ ap (option_map order_of) s.is ∙ ap (λ o. Some (order_of o)) s.field-0-is in
     let e = c.run_select.ensures in
-    given (ordered c.args.words.now) (selects s.name.now) _ _ _ chosen (record {
+    given (ordered c.args.words.now) (selects s.limits.longest s.name.now) _ _ _ chosen (record {
       about = record { two = e.two; missing = e.missing; three = e.three; four = e.four; five = e.five; unwritten = e.unwritten; complete = e.complete };
       reply = e.reply;
       front = e.front;
@@ -28,11 +28,11 @@ pub returns-in-Some-Tile-clause-answers : goal.returns-in-Some-Tile-clause-answe
 returns-in-Some-Tile-clause-answers g c =
     let s = c.in-Some-Tile in
     let cuts = c.as_slice.result.now in
-    let chosen : ordered c.args.words.now ≡ Some (tiles s.name.now cuts) =
+    let chosen : ordered c.args.words.now ≡ Some (tiles s.limits.longest s.name.now cuts) =
     sym c.command_of.ensures.order ∙ ap (option_map order_of) s.is ∙ ap (λ o. Some (order_of o)) s.field-0-is
-    ∙ ap (λ (l : List ℕ). Some (tiles s.name.now l)) (sym c.as_slice.ensures.value) in
+    ∙ ap (λ (l : List ℕ). Some (tiles s.limits.longest s.name.now l)) (sym c.as_slice.ensures.value) in
     let e = c.run_tile.ensures in
-    given (ordered c.args.words.now) (tiles s.name.now cuts) _ _ _ chosen (record {
+    given (ordered c.args.words.now) (tiles s.limits.longest s.name.now cuts) _ _ _ chosen (record {
       about = record { two = e.two; missing = e.missing; three = e.three; four = e.four; five = e.five; unwritten = e.unwritten; complete = e.complete };
       reply = e.reply;
       front = e.front;

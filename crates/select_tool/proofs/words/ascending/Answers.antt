@@ -1,7 +1,7 @@
 use Rattle.std.proofs.Common.{◌≡◌, None, sym, ap, ◌∙◌}
 use Rattle.std.specs.String.{string_bytes}
 use Rattle.select_tool.specs.Words.{above, number_of}
-use Rattle.select_tool.proofs.WordLaws.{cut_on, no_cut, cuts_end}
+use Rattle.select_tool.proofs.WordLaws.{no_cut, cuts_end}
 use Rattle.select_tool.proofs.words.ascending.Goals as goal
 
 pub returns-in-None : goal.returns-in-None

@@ -1,0 +1,5 @@
+mod Digits
+mod HeadRoom
+mod Members
+mod Names
+mod Reading

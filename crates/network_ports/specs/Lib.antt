@@ -1,0 +1,5 @@
+pub mod Calls
+pub mod Scripted
+pub mod Sent
+pub mod Told
+pub mod Real

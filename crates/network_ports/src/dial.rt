@@ -1,0 +1,27 @@
+//! The side of a network that makes connections.
+ghost use Rattle.std.specs.Prelude.{◌<◌, ◌≤◌, IfOk, length};
+ghost use Rattle.network_ports.specs.Calls.{Dialed, Dials, DialReceives, DialSends};
+
+use select_ports::Failed;
+
+/// Connections to one peer, of which the last is the current one.
+pub trait Dial {
+    /// The counts, and the connections where they are told.
+    ghost seen: { Self → Dialed };
+
+    /// Makes a connection in place of the one before it, which is dropped.
+    fn dial(&mut self) -> Result<(), Failed>
+        ensures seen { Dials (seen self.old) (seen self.new) result };
+
+    /// Takes the next bytes of the current connection into the buffer's front, and tells how many. With a buffer that isn't
+    /// empty `Ok(0)` is the end.
+    fn read(&mut self, buf: &mut [u8]) -> Result<usize, Failed>
+        ensures within { IfOk result (λ n. n ≤ length buf.old) }
+        ensures seen { DialReceives (seen self.old) (seen self.new) result buf.new };
+
+    /// Adds a front of the bytes to the current connection, and tells how many: at least one, where there is one.
+    fn write(&mut self, buf: &[u8]) -> Result<usize, Failed>
+        ensures within { IfOk result (λ n. n ≤ length buf.now) }
+        ensures some { IfOk result (λ n. 0 < length buf.now → 0 < n) }
+        ensures seen { DialSends (seen self.old) (seen self.new) result buf.now };
+}

@@ -1,0 +1,10 @@
+mod Behind
+mod Turns
+mod Counts
+mod Cuts
+mod Joins
+mod Spelled
+mod Found
+mod Opening
+mod ArraysSpelled
+mod FrontsSpelled

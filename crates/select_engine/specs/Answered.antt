@@ -1,0 +1,58 @@
+-- What a query means over an object: the records that it processes, or the code that ends it before the first.
+use Rattle.std.specs.Prelude.{ℕ, List, [], ◌∷◌, length, Bool, Option, None, Some, Result, Ok, Err}
+use Rattle.event_frame.specs.Event.{Event}
+use Rattle.scan_ranges.specs.Resolved.{resolved}
+use Rattle.select_request.specs.declared.request.SelectRequest.{SelectRequest}
+use Rattle.sql_grammar.specs.declared.tree.Query.{Query}
+use Rattle.select_reply.specs.declared.code.Code.{Code}
+use Rattle.select_reply.specs.declared.code.Code.TheVariants.{NotBuilt}
+use Rattle.select_reply.specs.declared.outcome.Outcome.{Outcome}
+use Rattle.select_reply.specs.declared.outcome.Outcome.TheVariants.{Faulted}
+use Rattle.select_reply.specs.Yields.{Yielded}
+use Rattle.select_reply.specs.Answers.{processed}
+use Rattle.select_reply.specs.Events.{error_event, answer_events}
+use Rattle.select_reply.specs.Replies.{outcome_of}
+use Rattle.record_rows.specs.Formats.{format_of, line_delimiter}
+use Rattle.record_rows.specs.declared.format.LineFormat.{LineFormat}
+use Rattle.record_stream.specs.Selected.{yields}
+use Rattle.planned_lines.specs.LineYields.{lines_of}
+use Rattle.planned_lines.specs.declared.planned.Planned.{Planned}
+use Rattle.object_plan.specs.Planning.{planned_over}
+use Rattle.select_job.specs.declared.asked.Asked.{Asked}
+use Rattle.select_job.specs.declared.asked.Asked.TheVariants.{Refused, Asks}
+
+-- ---- the records
+
+-- what the records that start in the request's range yield
+abbrev pub yields_over : LineFormat → Planned → ℕ → List ℕ → SelectRequest → List Yielded
+yields_over format p longest object request =
+    yields (lines_of format p.columns p.plan request.output longest) longest (line_delimiter format) object (resolved request.range (length object))
+
+-- they are processed up to the limit or the first code
+abbrev pub answered_by : LineFormat → ℕ → List ℕ → SelectRequest → Result Planned Code → Result (List Yielded) Code
+answered_by format longest object request (Ok p) = Ok (processed p.plan.limit (yields_over format p longest object request))
+answered_by format longest object request (Err code) = Err code
+
+abbrev pub answered_in : Option LineFormat → ℕ → List ℕ → SelectRequest → Query → Result (List Yielded) Code
+answered_in None longest object request query = Err NotBuilt
+answered_in (Some format) longest object request query = answered_by format longest object request (planned_over longest object request.input query)
+
+-- the records that a query processes of an object under a record limit, or the code that ends it before the first
+abbrev pub answered : ℕ → List ℕ → SelectRequest → Query → Result (List Yielded) Code
+answered longest object request query = answered_in (format_of request.input) longest object request query
+
+-- ---- the reply
+
+-- a code before the first record stands at byte 0
+abbrev pub events_of : Bool → Result (List Yielded) Code → List Event
+events_of progress (Ok done) = answer_events progress done
+events_of progress (Err code) = error_event code 0 ∷ []
+
+abbrev pub ended : Result (List Yielded) Code → Outcome
+ended (Ok done) = outcome_of done
+ended (Err code) = Faulted code 0
+
+-- the events of the reply to what a body asks of an object, under a record limit
+abbrev pub events : ℕ → List ℕ → Asked → List Event
+events longest object (Refused code at) = error_event code at ∷ []
+events longest object (Asks job) = events_of job.request.progress (answered longest object job.request job.query)
