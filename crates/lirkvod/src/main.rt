@@ -23,6 +23,10 @@ commands:
   show          reads replies from standard input, and prints a line for each event
   records       reads replies from standard input, and writes the output that their
                 Records events hold
+  gen KIND N    writes a sample object with N records, up to 10,000,000, of the kind
+                csv or jsonl
+  demo N        runs a query over a sample object with N records, up to 1,000,000, and
+                over its seven tiles: the bytes that each reply returned and scanned
 
 exit status: 0 done, 1 done with an error event, 2 bad words or no such object,
 3 input fault, 4 output fault, 5 store fault, 7 out of memory, 8 bad reply

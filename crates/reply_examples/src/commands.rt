@@ -4,7 +4,7 @@
 use case_tables::{Row, part, show};
 use event_frame::crc32;
 use select_ports::{MemObject, MemSink, MemSource, MemStore};
-use select_tool::run;
+use select_tool::{run, select_in_memory};
 use std::alloc::Global;
 use std::test::Fail;
 
@@ -109,6 +109,15 @@ pub(crate) fn tell_reply(alloc: Global, row: &Row) -> Result<String, Fail> {
         show(&mut text, ended.err.written())?;
     }
     Ok(text)
+}
+
+/// An object and the parts of a body: the length and the CRC of the reply, made in memory.
+pub(crate) fn tell_memory(alloc: Global, row: &Row) -> Result<String, Fail> {
+    let body = row.joined(alloc, 1)?;
+    let reply = select_in_memory(alloc, "a.csv", row.bytes(0)?, body.as_slice())?;
+    let len = reply.len();
+    let crc = crc32(reply.as_slice());
+    Ok(format!(in alloc; "{len} bytes {crc:08x}")?)
 }
 
 /// A command, an object and an input: the status, the output and the error output.

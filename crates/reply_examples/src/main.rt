@@ -15,7 +15,7 @@ use std::rt::Files;
 use std::test::Fail;
 
 /// The tables, in the order in which they are told, and what their rows are.
-const TABLES: [(&str, Kind); 18] = [
+const TABLES: [(&str, Kind); 19] = [
     ("elements.tsv", Kind::Elements),
     ("texts.tsv", Kind::Texts),
     ("requests.tsv", Kind::Requests),
@@ -32,6 +32,7 @@ const TABLES: [(&str, Kind); 18] = [
     ("jobs.tsv", Kind::Jobs),
     ("refusals.tsv", Kind::Refusals),
     ("replies.tsv", Kind::Replies),
+    ("memory.tsv", Kind::Memory),
     ("listings.tsv", Kind::Listings),
     ("failures.tsv", Kind::Failures),
 ];
@@ -55,6 +56,7 @@ enum Kind {
     Jobs,
     Refusals,
     Replies,
+    Memory,
     Listings,
     Failures,
 }
@@ -79,6 +81,7 @@ impl Tell for Kind {
             Kind::Jobs => engine::tell_job(alloc, row),
             Kind::Refusals => engine::tell_refusal(alloc, row),
             Kind::Replies => commands::tell_reply(alloc, row),
+            Kind::Memory => commands::tell_memory(alloc, row),
             Kind::Listings => commands::tell_output(alloc, row),
             Kind::Failures => commands::tell_failure(alloc, row),
         }

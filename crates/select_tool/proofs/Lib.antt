@@ -8,6 +8,8 @@ pub mod OneListing
 pub mod ReplyLaws
 pub mod SelectLaws
 pub mod WholeLaws
+pub mod DemoLaws
+pub mod MemoryLaws
 pub mod TileSteps
 pub mod WordLaws
 pub mod TileLaws

@@ -1,9 +1,13 @@
 -- What each command answers: its status, by what is outside before and after it.
 use Rattle.std.specs.Prelude.{◌≡◌, ◌⊎◌, ℕ, ◌-◌, ◌<◌, List, Option, None, Some, IfSome}
-use Rattle.std.specs.Io.KnownBytes.{Keeps}
+use Rattle.std.specs.Io.KnownBytes.{Appends, Keeps}
 use Rattle.select_ports.specs.Causes.{Rose}
+use Rattle.select_ports.specs.Streams.{AppendsFront}
 use Rattle.select_tool.specs.declared.listing.Listing.{Listing}
-use Rattle.select_tool.specs.Words.{Order, selects, tiles, lists}
+use Rattle.sample_objects.specs.declared.kind.SampleKind.{SampleKind}
+use Rattle.sample_objects.specs.Objects.{sample}
+use Rattle.select_tool.specs.Words.{Order, selects, tiles, lists, makes, demonstrates}
+use Rattle.select_tool.specs.Demo.{Demonstrates, DemonstratesInPart}
 use Rattle.select_tool.specs.Seen.{Outside}
 use Rattle.select_tool.specs.Input.{IsUnread}
 use Rattle.select_tool.specs.Replies.{IfTold, IsReplied, IsCutShort, IsHeld, IsLacking, NotHeldBack, Misses, TookNear, TookTwice}
@@ -95,9 +99,37 @@ pub record AnswersListing (listing : Listing) (status : ℕ) (before now : Outsi
   -- the store isn't used
   pub unused : now.store ≡ before.store
 
+-- `gen KIND N`
+pub record AnswersSample (kind : SampleKind) (count : ℕ) (status : ℕ) (before now : Outside) : Type 0 where
+  -- at 0 the sample object was written, and at 4 a front of it
+  pub made : status ≡ 0 → Appends before.out.written now.out.written (sample kind count)
+  pub front : status ≡ 4 → AppendsFront before.out.written now.out.written (sample kind count)
+  -- 4 only where the output failed
+  pub four : status ≡ 4 → Rose before.out.faults now.out.faults
+  pub complete : ¬ (Rose before.out.faults now.out.faults) → status ≡ 0
+  -- nothing is read, and the store isn't used
+  pub unread : IsUnread before.input.taken now.input.taken before.input.left now.input.left
+  pub unused : now.store ≡ before.store
+
+-- `demo N`
+pub record AnswersDemo (count : ℕ) (status : ℕ) (before now : Outside) : Type 0 where
+  -- at 0 the summary was written; its last line stands only where the replies to the tiles carry together what the reply to the whole does
+  pub shown : status ≡ 0 → Demonstrates count before.out.written now.out.written
+  -- at any other status nothing was written, or a front of the summary
+  pub front : 0 < status → Keeps before.out.written now.out.written ⊎ DemonstratesInPart count before.out.written now.out.written
+  -- 4 only where the output failed; where memory was refused, nothing was written
+  pub four : status ≡ 4 → Rose before.out.faults now.out.faults
+  pub seven : status ≡ 7 → Keeps before.out.written now.out.written
+  pub complete : ¬ (Rose before.out.faults now.out.faults) → (status ≡ 0) ⊎ (status ≡ 7)
+  -- nothing is read, and the store isn't used
+  pub unread : IsUnread before.input.taken now.input.taken before.input.left now.input.left
+  pub unused : now.store ≡ before.store
+
 -- what words ask for is answered
 abbrev pub Answers : Option Order → ℕ → Outside → Outside → Type 0
 Answers None status before now = AnswersNone status before now
 Answers (Some (selects longest name)) status before now = AnswersSelect longest name status before now
 Answers (Some (tiles longest name cuts)) status before now = AnswersTile longest name cuts status before now
 Answers (Some (lists listing)) status before now = AnswersListing listing status before now
+Answers (Some (makes kind count)) status before now = AnswersSample kind count status before now
+Answers (Some (demonstrates count)) status before now = AnswersDemo count status before now

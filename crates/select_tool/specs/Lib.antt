@@ -8,5 +8,6 @@ pub mod Input
 pub mod Replies
 pub mod Tiles
 pub mod Whole
+pub mod Demo
 pub mod Seen
 pub mod Commands

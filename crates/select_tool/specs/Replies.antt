@@ -10,7 +10,7 @@ use Rattle.select_reply.specs.declared.outcome.Outcome.{Outcome}
 use Rattle.select_reply.specs.declared.outcome.Outcome.TheVariants.{Done, Faulted}
 use Rattle.select_tool.specs.declared.trouble.Trouble.{Trouble}
 use Rattle.select_tool.specs.declared.trouble.Trouble.TheVariants.{BadWords, NoSuchKey, InputFault, OutputFault, StoreFault, OutOfMemory, BadReply}
-use Rattle.select_tool.specs.Words.{Order, selects, tiles, lists}
+use Rattle.select_tool.specs.Words.{Order, longest_record, selects, tiles, lists, makes, demonstrates}
 use Rattle.select_job.specs.Prepared.{Prepares}
 use Rattle.select_reply.specs.Events.{wrapped_frames}
 use Rattle.scan_ranges.specs.Resolved.{resolved}
@@ -83,6 +83,12 @@ pub record IsReplied (longest : ℕ) (object body : List ℕ) (status : ℕ) (be
   pub replied : Replied longest object body outcome before now
   pub told : status ≡ status_of_outcome outcome
 
+-- the bytes are the reply to a body about an object, under the record limit where none is chosen
+pub record IsReplyInMemory (object body reply : List ℕ) : Type 0 where
+  pub asked : Asked
+  pub prepared : Prepares body asked
+  pub is : reply ≡ reply_frames (λ frame. frame) longest_record object asked
+
 -- no object of the name was found: none is open, and the count of names that weren't found rose
 pub record Misses (held : Option Objects) (name : List ℕ) (current : Opened) (absent_before absent_now : ℕ) : Type 0 where
   pub lacks : LacksName held name
@@ -110,6 +116,8 @@ IsStatusOf None status = status ≡ 2
 IsStatusOf (Some (selects longest name)) status = (status < 6) ⊎ (status ≡ 7)
 IsStatusOf (Some (tiles longest name cuts)) status = (status < 6) ⊎ (status ≡ 7)
 IsStatusOf (Some (lists listing)) status = (status < 2) ⊎ (status ≡ 3) ⊎ (status ≡ 4) ⊎ (status ≡ 7) ⊎ (status ≡ 8)
+IsStatusOf (Some (makes kind count)) status = (status ≡ 0) ⊎ (status ≡ 4)
+IsStatusOf (Some (demonstrates count)) status = (status ≡ 0) ⊎ (status ≡ 4) ⊎ (status ≡ 7)
 
 -- the line on the error output at any status but 8: none where the command was done
 abbrev pub line_of_status : Option Order → ℕ → List ℕ

@@ -4,18 +4,23 @@ use Rattle.std.specs.Option.{option_map}
 use Rattle.std.specs.String.{string_bytes}
 use Rattle.std.specs.declared.alloc.Global.{Global}
 use Rattle.select_request.specs.Values.{whole_number_of}
+use Rattle.sample_objects.specs.declared.kind.SampleKind.{SampleKind}
+use Rattle.sample_objects.specs.declared.kind.SampleKind.TheVariants.{Csv, JsonLines}
 use Rattle.record_stream.specs.Tiling.{Ascend}
 use Rattle.select_tool.specs.declared.listing.Listing.{Listing}
 use Rattle.select_tool.specs.declared.listing.Listing.TheVariants.{Lines, Payloads}
 use Rattle.select_tool.specs.declared.words.Command.{Command}
-use Rattle.select_tool.specs.declared.words.Command.TheVariants.{Select, Tile, List as Listed}
+use Rattle.select_tool.specs.declared.words.Command.TheVariants.{Select, Tile, List as Listed, Sample, Demo}
 
 -- what words ask for: under a record limit in bytes, the reply about the object of a name; the replies to the tiles of such an object, by
--- these cuts; or a listing of the replies on the input
+-- these cuts; a listing of the replies on the input; the sample object of a kind with so many records; or a summary of a query over the
+-- sample object with so many records and over its tiles
 pub data Order : Type 0 where
   selects : ℕ → List ℕ → Order
   tiles : ℕ → List ℕ → List ℕ → Order
   lists : Listing → Order
+  makes : SampleKind → ℕ → Order
+  demonstrates : ℕ → Order
 
 -- the word of a listing
 abbrev pub listing_of : List ℕ → Option Listing
@@ -86,13 +91,42 @@ abbrev pub limited : Option ℕ → List (String Global) → Option Order
 limited None words = None
 limited (Some longest) words = about longest words
 
--- `select NAME` and `tile NAME CUT..`, with `limit BYTES` before them where a record limit is chosen; `show` and `records`. Other words
--- are no command
+-- the word of a kind of sample objects
+abbrev pub kind_of : List ℕ → Option SampleKind
+kind_of word =
+    if bytes_eq word (codes "csv") then Some Csv
+    else if bytes_eq word (codes "jsonl") then Some JsonLines
+    else None
+
+-- the number in these bounds, if it is there
+abbrev pub within : ℕ → ℕ → Option ℕ → Option ℕ
+within least most None = None
+within least most (Some number) = if nat_le least number && nat_le number most then Some number else None
+
+-- `gen KIND N`, behind its first word
+abbrev pub sample_by : Option SampleKind → Option ℕ → Option Order
+sample_by None count = None
+sample_by (Some kind) count = option_map (makes kind) count
+
+abbrev pub sample_of : List ℕ → List (String Global) → Option Order
+sample_of kind [] = None
+sample_of kind (count ∷ []) = sample_by (kind_of kind) (within 0 10000000 (number_of (string_bytes count)))
+sample_of kind (count ∷ word ∷ words) = None
+
+-- `demo N`, behind its first word
+abbrev pub demo_of : List ℕ → List (String Global) → Option Order
+demo_of count [] = option_map demonstrates (within 1 1000000 (number_of count))
+demo_of count (word ∷ words) = None
+
+-- `select NAME` and `tile NAME CUT..`, with `limit BYTES` before them where a record limit is chosen; `show` and `records`; `gen KIND N`
+-- and `demo N`. Other words are no command
 unfoldable pub ordered : List (String Global) → Option Order
 ordered [] = None
 ordered (verb ∷ []) = option_map lists (listing_of (string_bytes verb))
 ordered (verb ∷ word ∷ words) =
     if bytes_eq (string_bytes verb) (codes "limit") then limited (limit_of (number_of (string_bytes word))) words
+    else if bytes_eq (string_bytes verb) (codes "gen") then sample_of (string_bytes word) words
+    else if bytes_eq (string_bytes verb) (codes "demo") then demo_of (string_bytes word) words
     else about longest_record (verb ∷ word ∷ words)
 
 -- the order of a command that was read from the words
@@ -100,15 +134,21 @@ abbrev pub order_of : Command → Order
 order_of (Select limits name) = selects limits.longest name.now
 order_of (Tile limits name cuts) = tiles limits.longest name.now cuts.items
 order_of (Listed listing) = lists listing
+order_of (Sample kind count) = makes kind count
+order_of (Demo count) = demonstrates count
 
--- the record limit of a command is no larger than the largest one
-abbrev pub HasSmallLimit : Command → Type 0
-HasSmallLimit (Select limits name) = limits.longest ≤ 16777216
-HasSmallLimit (Tile limits name cuts) = limits.longest ≤ 16777216
-HasSmallLimit (Listed listing) = Unit {0}
+-- the record limit and the number of records of a command are within their bounds
+abbrev pub IsBounded : Command → Type 0
+IsBounded (Select limits name) = limits.longest ≤ 16777216
+IsBounded (Tile limits name cuts) = limits.longest ≤ 16777216
+IsBounded (Listed listing) = Unit {0}
+IsBounded (Sample kind count) = count ≤ 10000000
+IsBounded (Demo count) = (1 ≤ count) × (count ≤ 1000000)
 
 -- the cuts of a command ascend
 abbrev pub HasAscendingCuts : Command → Type 0
 HasAscendingCuts (Select limits name) = Unit {0}
 HasAscendingCuts (Tile limits name cuts) = Ascend 0 cuts.items
 HasAscendingCuts (Listed listing) = Unit {0}
+HasAscendingCuts (Sample kind count) = Unit {0}
+HasAscendingCuts (Demo count) = Unit {0}

@@ -1,10 +1,13 @@
 //! The top call: a command from its words to its exit status.
 ghost use Rattle.std.specs.Prelude.{◌≡◌, ◌≢◌, ◌⊎◌, ◌+◌, ◌-◌, ◌<◌, ◌≤◌, Some, IfSome};
-ghost use Rattle.std.specs.Io.KnownBytes.{Keeps};
+ghost use Rattle.std.specs.Io.KnownBytes.{Appends, Keeps};
 ghost use Rattle.select_ports.specs.Causes.{Rose};
+ghost use Rattle.select_ports.specs.Streams.{AppendsFront};
+ghost use Rattle.sample_objects.specs.Objects.{sample};
 ghost use Rattle.record_stream.specs.Tiling.{Ascend};
 ghost use Rattle.select_tool.specs.Commands.{Answers};
-ghost use Rattle.select_tool.specs.Words.{selects, tiles, lists, ordered};
+ghost use Rattle.select_tool.specs.Words.{selects, tiles, lists, makes, demonstrates, ordered};
+ghost use Rattle.select_tool.specs.Demo.{Demonstrates, DemonstratesInPart};
 ghost use Rattle.select_tool.specs.Input.{IsUnread, most_of_body, most_of_replies, most_read};
 ghost use Rattle.select_tool.specs.Replies.{IfTold, IsReplied, IsCutShort, IsHeld, IsLacking, NotHeldBack, Misses, TookNear};
 ghost use Rattle.select_tool.specs.Replies.{TookTwice, IsStatusOf, line_of_status, status_of_outcome, WritesUnlessFaulty};
@@ -13,14 +16,16 @@ ghost use Rattle.select_tool.specs.Tiles.{IsTiledShort, IsTiledToReply, TookNear
 ghost use Rattle.select_tool.specs.Whole.{IsTiled};
 ghost use Rattle.select_tool.specs.Listings.{IsAnswered, IsListedInPart, IsRefused, FailsInput};
 
+use crate::demo::demonstrate;
 use crate::listing::Listing;
 use crate::replies::list;
 use crate::select::select;
 use crate::tile::tile;
 use crate::trouble::Trouble;
 use crate::words::{Command, command_of};
+use sample_objects::{SampleKind, write_sample};
 use select_engine::Outcome;
-use select_ports::{Limits, Sink, Source, Store, write_all};
+use select_ports::{Failed, Limits, Sink, Source, Store, write_all};
 use std::alloc::Global;
 
 /// Runs the command that the words say, and returns its exit status.
@@ -35,6 +40,11 @@ use std::alloc::Global;
 /// `Progress S P R`, `Stats S P R`, `End` and `Error CODE MESSAGE`. The three numbers are `?` where the payload has no counts of the
 /// one form, and so is each byte of a code or a message that isn't a visible character of ASCII or a space. `records` writes the
 /// payloads of the Records events, joined. A reply ends with an End or Error event, and the input has one reply or more.
+///
+/// `gen KIND N` writes the sample object of the kind `csv` or `jsonl` with N records, up to 10,000,000, whose records a rule gives.
+/// `demo N` makes the object of `gen csv N` in memory, from 1 to 1,000,000 records. It runs one query on the whole and on the seven tiles
+/// of the object, and writes `object SIZE`, `whole BYTES SCANNED` and `tile K BYTES SCANNED` for each tile: the bytes of output, and those
+/// that were scanned. The last line is `joined yes`, where the outputs of the tiles, joined, are that of the whole.
 ///
 /// | status | when | line on `err` |
 /// |---|---|---|
@@ -107,6 +117,8 @@ pub fn run<S: Store, I: Source, O: Sink, E: Sink>(
             err,
         ),
         Some(Command::List(listing)) => run_list(alloc, listing, input, out, err),
+        Some(Command::Sample(kind, count)) => run_sample(kind, count, out, err),
+        Some(Command::Demo(count)) => run_demo(alloc, count, out, err),
         None => report(err, Trouble::BadWords),
     }
 }
@@ -243,6 +255,43 @@ fn run_list<I: Source, O: Sink, E: Sink>(
 {
     match list(alloc, listing, input, out) {
         Ok(erred) => u8::from(erred),
+        Err(trouble) => report(err, trouble),
+    }
+}
+
+// The command `gen KIND N`.
+fn run_sample<O: Sink, E: Sink>(kind: SampleKind, count: u64, out: &mut O, err: &mut E) -> u8
+    requires { count ≤ 10000000 }
+    ensures made { result ≡ 0 → Appends (O.written out.old) (O.written out.new) (sample kind count) }
+    ensures front { result ≡ 4 → AppendsFront (O.written out.old) (O.written out.new) (sample kind count) }
+    ensures only { (result ≡ 0) ⊎ (result ≡ 4) }
+    ensures four { result ≡ 4 → Rose (O.faults out.old) (O.faults out.new) }
+    ensures complete { ¬ (Rose (O.faults out.old) (O.faults out.new)) → result ≡ 0 }
+    ensures line { WritesUnlessFaulty (E.faults err.old) (E.faults err.new) (E.written err.old) (E.written err.new)
+        (line_of_status (Some (makes kind count)) result) }
+{
+    match write_sample(kind, count, out) {
+        Ok(()) => 0,
+        Err(Failed) => report(err, Trouble::OutputFault),
+    }
+}
+
+// The command `demo N`.
+fn run_demo<O: Sink, E: Sink>(alloc: Global, count: u64, out: &mut O, err: &mut E) -> u8
+    requires some { 1 ≤ count }
+    requires small { count ≤ 1000000 }
+    ensures shown { result ≡ 0 → Demonstrates count (O.written out.old) (O.written out.new) }
+    ensures front { 0 < result → Keeps (O.written out.old) (O.written out.new)
+        ⊎ DemonstratesInPart count (O.written out.old) (O.written out.new) }
+    ensures only { (result ≡ 0) ⊎ (result ≡ 4) ⊎ (result ≡ 7) }
+    ensures four { result ≡ 4 → Rose (O.faults out.old) (O.faults out.new) }
+    ensures seven { result ≡ 7 → Keeps (O.written out.old) (O.written out.new) }
+    ensures complete { ¬ (Rose (O.faults out.old) (O.faults out.new)) → (result ≡ 0) ⊎ (result ≡ 7) }
+    ensures line { WritesUnlessFaulty (E.faults err.old) (E.faults err.new) (E.written err.old) (E.written err.new)
+        (line_of_status (Some (demonstrates count)) result) }
+{
+    match demonstrate(alloc, count, out) {
+        Ok(()) => 0,
         Err(trouble) => report(err, trouble),
     }
 }

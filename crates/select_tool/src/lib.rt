@@ -3,6 +3,8 @@
 #![tactic(auto)]
 
 mod commands;
+mod demo;
+mod in_memory;
 mod input;
 mod laws;
 mod lister;
@@ -15,4 +17,5 @@ mod trouble;
 mod words;
 
 pub use commands::run;
+pub use in_memory::select_in_memory;
 pub use laws::{replies_have_one_listing, replies_make_the_whole};

@@ -204,8 +204,8 @@ fn write_tiles<S: Store, K: FrameSink>(
     }
 }
 
-// Writes the reply to a query, with this range in place of its request's own.
-fn write_tile<S: Store, K: FrameSink>(
+/// Writes the reply to a query, with this range in place of its request's own.
+pub(crate) fn write_tile<S: Store, K: FrameSink>(
     alloc: Global,
     limits: Limits,
     job: &mut Job,

@@ -2,10 +2,12 @@
 ghost use Rattle.std.specs.Prelude.{◌≡◌, ◌≤◌, true, length, IfSome};
 ghost use Rattle.std.specs.Option.{option_map};
 ghost use Rattle.select_tool.specs.Words.{tiles, ordered, order_of, has_leading_zero, number_of, above, is_few, cuts_above};
-ghost use Rattle.select_tool.specs.Words.{cuts_of, HasAscendingCuts, HasSmallLimit, about, is_limit, limit_of, limited};
+ghost use Rattle.select_tool.specs.Words.{cuts_of, HasAscendingCuts, IsBounded, about, is_limit, limit_of, limited};
+ghost use Rattle.select_tool.specs.Words.{demo_of, kind_of, sample_of, within};
 
 use crate::listing::Listing;
 use arrayvec::ArrayVec;
+use sample_objects::{LARGEST_COUNT, SampleKind};
 use select_ports::Limits;
 use select_request::whole_number;
 
@@ -13,11 +15,14 @@ use select_request::whole_number;
 const MOST_CUTS: usize = 1000;
 
 /// The record limit where none is chosen, and the least and the largest one, in bytes.
-const LONGEST_RECORD: usize = 1_048_576;
+pub(crate) const LONGEST_RECORD: usize = 1_048_576;
 
 const LEAST_LIMIT: u64 = 1024;
 
 const LARGEST_LIMIT: u64 = 16_777_216;
+
+/// The most records of the object that a query is shown over.
+const LARGEST_DEMO: u64 = 1_000_000;
 
 /// A command.
 pub(crate) enum Command<'w> {
@@ -27,6 +32,10 @@ pub(crate) enum Command<'w> {
     Tile(Limits, &'w str, ArrayVec<u64, MOST_CUTS>),
     /// `show` and `records`: what is listed of the replies on the input.
     List(Listing),
+    /// `gen KIND N`: the sample object with so many records.
+    Sample(SampleKind, u64),
+    /// `demo N`: the summary of a query over the sample object with so many records, and over its tiles.
+    Demo(u64),
 }
 
 /// The command that the words say, if they say one.
@@ -34,12 +43,14 @@ pub(crate) enum Command<'w> {
 pub(crate) fn command_of(words: &[String]) -> Option<Command<'_>>
     ensures order { option_map order_of result ≡ ordered words.now }
     ensures ascend { IfSome result HasAscendingCuts }
-    ensures small { IfSome result HasSmallLimit }
+    ensures small { IfSome result IsBounded }
 {
     match words {
         [verb] if verb.as_str() == "show" => Some(Command::List(Listing::Lines)),
         [verb] if verb.as_str() == "records" => Some(Command::List(Listing::Payloads)),
         [verb, bytes, words @ ..] if verb.as_str() == "limit" => limited(bytes.as_str(), words),
+        [verb, kind, words @ ..] if verb.as_str() == "gen" => sample_of(kind.as_str(), words),
+        [verb, count, words @ ..] if verb.as_str() == "demo" => demo_of(count.as_str(), words),
         [_, _, ..] => about(
             Limits {
                 longest: LONGEST_RECORD,
@@ -54,7 +65,7 @@ pub(crate) fn command_of(words: &[String]) -> Option<Command<'_>>
 fn limited<'w>(bytes: &str, words: &'w [String]) -> Option<Command<'w>>
     ensures order { option_map order_of result ≡ limited (limit_of (number_of bytes.now)) words.now }
     ensures ascend { IfSome result HasAscendingCuts }
-    ensures small { IfSome result HasSmallLimit }
+    ensures small { IfSome result IsBounded }
 {
     match limit_of(number(bytes)) {
         Some(limits) => about(limits, words),
@@ -82,13 +93,65 @@ fn is_limit(bytes: u64) -> bool
     LEAST_LIMIT <= bytes && bytes <= LARGEST_LIMIT
 }
 
+// The command that the words behind `gen KIND` say.
+fn sample_of<'w>(kind: &str, words: &'w [String]) -> Option<Command<'w>>
+    ensures order { option_map order_of result ≡ sample_of kind.now words.now }
+    ensures ascend { IfSome result HasAscendingCuts }
+    ensures small { IfSome result IsBounded }
+{
+    match words {
+        [count] => {
+            let kind = kind_of(kind)?;
+            let count = within(0, LARGEST_COUNT, number(count.as_str()))?;
+            Some(Command::Sample(kind, count))
+        }
+        _ => None,
+    }
+}
+
+fn kind_of(word: &str) -> Option<SampleKind>
+    ensures { result ≡ kind_of word.now }
+{
+    match word {
+        "csv" => Some(SampleKind::Csv),
+        "jsonl" => Some(SampleKind::JsonLines),
+        _ => None,
+    }
+}
+
+// The command that the words behind `demo` say.
+fn demo_of<'w>(count: &str, words: &'w [String]) -> Option<Command<'w>>
+    ensures order { option_map order_of result ≡ demo_of count.now words.now }
+    ensures ascend { IfSome result HasAscendingCuts }
+    ensures small { IfSome result IsBounded }
+{
+    match words {
+        [] => {
+            let count = within(1, LARGEST_DEMO, number(count))?;
+            Some(Command::Demo(count))
+        }
+        _ => None,
+    }
+}
+
+// The number, where it is in these bounds.
+fn within(least: u64, most: u64, number: Option<u64>) -> Option<u64>
+    ensures is { result ≡ within least most number }
+    ensures bounds { IfSome result (λ number. (least ≤ number) × (number ≤ most)) }
+{
+    match number {
+        Some(number) if least <= number && number <= most => Some(number),
+        _ => None,
+    }
+}
+
 // The command about an object that the words say, under a record limit.
 #[tactic(auto, unfolding(crate::specs::Words::about))]
 fn about(limits: Limits, words: &[String]) -> Option<Command<'_>>
     requires { limits.longest ≤ 16777216 }
     ensures order { option_map order_of result ≡ about limits.longest words.now }
     ensures ascend { IfSome result HasAscendingCuts }
-    ensures small { IfSome result HasSmallLimit }
+    ensures small { IfSome result IsBounded }
 {
     match words {
         [verb, name, cuts @ ..] if verb.as_str() == "tile" => {
@@ -104,7 +167,7 @@ fn tiling_of<'w>(limits: Limits, name: &'w str, words: &[String]) -> Option<Comm
     requires { limits.longest ≤ 16777216 }
     ensures order { option_map order_of result ≡ option_map (tiles limits.longest name.now) (cuts_of words.now) }
     ensures ascend { IfSome result HasAscendingCuts }
-    ensures small { IfSome result HasSmallLimit }
+    ensures small { IfSome result IsBounded }
 {
     match cuts_of(words) {
         Some(cuts) => Some(Command::Tile(limits, name, cuts)),

@@ -1,12 +1,21 @@
-use Rattle.std.proofs.Common.{◌≡◌, ℕ, List, Option, Some, ap, sym, ◌∙◌, refl, subst}
+use Rattle.std.proofs.Common.{◌≡◌, ℕ, List, Option, None, Some, ap, sym, ◌∙◌, refl, subst}
 use Rattle.std.specs.Option.{option_map}
+use Rattle.std.specs.Io.KnownBytes.{Keeps}
+use Rattle.select_tool.specs.Input.{IsUnread}
 use Rattle.select_tool.specs.Commands.{Answers}
 use Rattle.select_tool.specs.Seen.{Outside}
-use Rattle.select_tool.specs.Words.{Order, selects, tiles, lists, order_of, ordered}
+use Rattle.select_tool.specs.Words.{Order, selects, tiles, lists, makes, demonstrates, order_of, ordered}
 use Rattle.select_tool.proofs.commands.run.Goals as goal
 
 given : (order : Option Order) (is : Order) (status : ℕ) (before now : Outside) → order ≡ Some is → Answers (Some is) status before now → Answers order status before now
 given order is status before now chosen holds = subst (λ (o : Option Order). Answers o status before now) (sym chosen) holds
+
+kept : (known : Option (List ℕ)) → Keeps known known
+kept None = tt
+kept (Some bytes) = refl
+
+unread : (taken : ℕ) (left : Option (List ℕ)) → IsUnread taken taken left left
+unread taken left = (refl, kept left)
 
 pub returns-in-Some-Select-clause-answers : goal.returns-in-Some-Select-clause-answers
 returns-in-Some-Select-clause-answers g c =
@@ -55,5 +64,36 @@ returns-in-Some-List-clause-answers g c =
       seven = e.seven;
       eight = e.eight;
       complete = e.complete;
+      unused = refl;
+    })
+
+pub returns-in-Some-Sample-clause-answers : goal.returns-in-Some-Sample-clause-answers
+returns-in-Some-Sample-clause-answers g c =
+    let s = c.in-Some-Sample in
+    let chosen : ordered c.args.words.now ≡ Some (makes s.kind s.count) =
+    sym c.command_of.ensures.order ∙ ap (option_map order_of) s.is ∙ ap (λ o. Some (order_of o)) s.field-0-is in
+    let e = c.run_sample.ensures in
+    given (ordered c.args.words.now) (makes s.kind s.count) _ _ _ chosen (record {
+      made = e.made;
+      front = e.front;
+      four = e.four;
+      complete = e.complete;
+      unread = unread _ _;
+      unused = refl;
+    })
+
+pub returns-in-Some-Demo-clause-answers : goal.returns-in-Some-Demo-clause-answers
+returns-in-Some-Demo-clause-answers g c =
+    let s = c.in-Some-Demo in
+    let chosen : ordered c.args.words.now ≡ Some (demonstrates s.count) =
+    sym c.command_of.ensures.order ∙ ap (option_map order_of) s.is ∙ ap (λ o. Some (order_of o)) s.field-0-is in
+    let e = c.run_demo.ensures in
+    given (ordered c.args.words.now) (demonstrates s.count) _ _ _ chosen (record {
+      shown = e.shown;
+      front = e.front;
+      four = e.four;
+      seven = e.seven;
+      complete = e.complete;
+      unread = unread _ _;
       unused = refl;
     })
