@@ -1,6 +1,6 @@
 -- What a record yields is no longer than the record limit and a delimiter.
-use Rattle.std.specs.Prelude.{◌≡◌, ℕ, ◌+◌, ◌≤◌, Bool, true, false, nat_le, List, [], ◌∷◌, ◌++◌, length, map, Option, None, Some, Result, Ok, Err, if◌then◌else◌, refl}
-use Rattle.std.proofs.Common.{ap, ap₂, sym, ◌∙◌, arith, length-append, append-nil}
+use Rattle.std.specs.Prelude.{◌≡◌, ℕ, ◌+◌, ◌≤◌, Bool, true, false, nat_le, List, ◌++◌, length, Option, None, Some, Result, Ok, Err, if◌then◌else◌, refl}
+use Rattle.std.proofs.Common.{ap, ap₂, ◌∙◌, arith, length-append}
 use Rattle.std.proofs.lemmas.Bool.{leb-true}
 use Rattle.select_request.specs.declared.request.Output.{Output}
 use Rattle.select_request.specs.declared.request.Delimiter.{Delimiter}
@@ -14,18 +14,22 @@ use Rattle.scan_plan.specs.declared.plans.Plan.{Plan}
 use Rattle.scan_plan.specs.declared.plans.PlanItems.{PlanItems}
 use Rattle.scan_plan.specs.declared.plans.PlanItems.TheVariants as items
 use Rattle.select_reply.specs.declared.code.Code.TheVariants.{OverMaxRecordSize}
-use Rattle.select_reply.specs.Yields.{Yield, silent, writes, fails, bytes_of}
+use Rattle.select_reply.specs.Yields.{Yield, writes, fails, bytes_of}
 use Rattle.sql_eval.specs.Rows.{cell_at}
 use Rattle.record_output.specs.Records.{Field, delimiter_of, delimiter_bytes}
 use Rattle.record_output.specs.Writing.{Writing, HasSettings}
 use Rattle.record_rows.specs.Rows.{RowOf, passed, row, faulty}
 use Rattle.record_rows.specs.Formats.{content_row}
 use Rattle.record_rows.specs.declared.format.LineFormat.{LineFormat}
-use Rattle.record_yields.specs.Names.{name_at, column_names}
-use Rattle.record_yields.specs.Projections.{projections}
-use Rattle.record_yields.specs.Yields.{limited, of_fields, of_json, of_all, of_items, of_selection, passes, where_kept, row_yield}
-use Rattle.record_stream.specs.Lines.{Lines, output_of, IsShort}
-use Rattle.planned_lines.specs.LineYields.{yield_of_row, lines_of}
+use Rattle.record_yields.specs.Totals.{row_added, yield_of_added, totals_yield}
+use Rattle.sql_totals.specs.Partials.{Partial}
+use Rattle.record_yields.specs.Yields.{limited, of_fields, of_json, of_all, of_selection, passes, where_kept, row_yield}
+use Rattle.record_stream.specs.Lines.{behind, output_of, IsShort, IsWithoutTotals}
+use Rattle.select_reply.specs.declared.code.Code.{Code}
+use Rattle.select_reply.specs.declared.outcome.Outcome.{Outcome}
+use Rattle.select_ports.specs.declared.outcome.Failed.{Failed}
+use Rattle.planned_lines.specs.Turning.{GoesOn}
+use Rattle.planned_lines.specs.LineYields.{has_aggregates, no_totals, totals_behind_row, totals_behind, totals_of, yield_by, yield_of_row, totals_record, lines_behind, lines_of}
 
 module _ (output : Output) (longest : ℕ) where
   -- an output of at most so many bytes
@@ -82,21 +86,77 @@ module _ (output : Output) (longest : ℕ) where
   unfolding row_yield
   row_brief columns plan cells = kept_brief (passes plan.filter cells) _ (selection_brief columns plan.items plan.names cells)
 
-  read_brief : (columns : Columns) (plan : Plan) (r : RowOf) → length (output_of (yield_of_row columns plan output longest r)) ≤ longest + 2
-  read_brief columns plan passed = omega arith
-  read_brief columns plan (row cells) = row_brief columns plan cells
-  read_brief columns plan (faulty code) = omega arith
+  added_brief : (r : Result (List Partial) Code) → IsBrief (yield_of_added r)
+  added_brief (Ok ts) = omega arith
+  added_brief (Err code) = omega arith
+
+  by_brief : (columns : Columns) (plan : Plan) (selected : PlanItems) (ts : List Partial) (cells : List Value)
+      → IsBrief (yield_by selected columns plan output longest ts cells)
+  by_brief columns plan items.All ts cells = row_brief columns plan cells
+  by_brief columns plan (items.Rows bounds) ts cells = row_brief columns plan cells
+  by_brief columns plan (items.Totals aggs) ts cells = added_brief (row_added plan.filter aggs cells ts)
+
+  read_brief : (columns : Columns) (plan : Plan) (ts : List Partial) (r : RowOf) → length (output_of (yield_of_row columns plan output longest ts r)) ≤ longest + 2
+  read_brief columns plan ts passed = omega arith
+  read_brief columns plan ts (row cells) = by_brief columns plan plan.items ts cells
+  read_brief columns plan ts (faulty code) = omega arith
+
+  totals_brief : (names : List (List ℕ)) (ts : List Partial) → IsBrief (totals_yield names output longest ts)
+  unfolding totals_yield
+  totals_brief names ts = fields_brief _
+
+  end_brief : (selected : PlanItems) (names : List (List ℕ)) (ts : List Partial) → length (output_of (totals_record selected names output longest ts)) ≤ longest + 2
+  end_brief items.All names ts = omega arith
+  end_brief (items.Rows bounds) names ts = omega arith
+  end_brief (items.Totals aggs) names ts = totals_brief names ts
 
 pub lines_short : (format : LineFormat) (columns : Columns) (plan : Plan) (output : Output) (longest : ℕ) → longest ≤ 16777216
     → IsShort (lines_of format columns plan output longest)
-lines_short format columns plan output longest limit place bytes short =
-    omega (arith, limit, read_brief output longest columns plan (content_row format place bytes))
+lines_short format columns plan output longest limit = record {
+  content = λ seen place bytes short.
+      omega (arith, limit, read_brief output longest columns plan (totals_of format plan (no_totals plan.items) seen) (content_row format place bytes));
+  end = λ seen. omega (arith, limit, end_brief output longest plan.items plan.names (totals_of format plan (no_totals plan.items) seen));
+}
+
+-- ---- a plan without aggregates
+
+by_alone : (selected : PlanItems) → has_aggregates selected ≡ false → (columns : Columns) (plan : Plan) (output : Output) (longest : ℕ) (ts us : List Partial)
+    (cells : List Value) → yield_by selected columns plan output longest ts cells ≡ yield_by selected columns plan output longest us cells
+by_alone items.All without columns plan output longest ts us cells = refl
+by_alone (items.Rows bounds) without columns plan output longest ts us cells = refl
+by_alone (items.Totals aggs) without columns plan output longest ts us cells = absurd (cc)
+
+row_alone : (columns : Columns) (plan : Plan) → has_aggregates plan.items ≡ false → (output : Output) (longest : ℕ) (ts us : List Partial) (r : RowOf)
+    → yield_of_row columns plan output longest ts r ≡ yield_of_row columns plan output longest us r
+row_alone columns plan without output longest ts us passed = refl
+row_alone columns plan without output longest ts us (row cells) = ap Some (by_alone plan.items without columns plan output longest ts us cells)
+row_alone columns plan without output longest ts us (faulty code) = refl
+
+end_alone : (selected : PlanItems) → has_aggregates selected ≡ false → (names : List (List ℕ)) (output : Output) (longest : ℕ) (ts : List Partial)
+    → totals_record selected names output longest ts ≡ None
+end_alone items.All without names output longest ts = refl
+end_alone (items.Rows bounds) without names output longest ts = refl
+end_alone (items.Totals aggs) without names output longest ts = absurd (cc)
+
+pub lines_alone : (format : LineFormat) (columns : Columns) (plan : Plan) (output : Output) (longest : ℕ) → has_aggregates plan.items ≡ false
+    → IsWithoutTotals (lines_of format columns plan output longest)
+lines_alone format columns plan output longest without = record {
+  alone = λ seen place bytes.
+      row_alone columns plan without output longest (totals_of format plan (no_totals plan.items) seen) (no_totals plan.items) (content_row format place bytes);
+  ends = λ seen. end_alone plan.items without plan.names output longest (totals_of format plan (no_totals plan.items) seen);
+}
 
 -- ---- a writer keeps its settings
 
-pub same_lines : (format : LineFormat) (columns : Columns) (plan : Plan) (old new : Writing) → HasSettings old new
-    → lines_of format columns plan new.output new.longest ≡ lines_of format columns plan old.output old.longest
-same_lines format columns plan old new same = ap₂ (λ output longest. lines_of format columns plan output longest) same.output same.longest
+module _ (format : LineFormat) (columns : Columns) (plan : Plan) (old new : Writing) (same : HasSettings old new) where
+  -- the lines behind a line are those of the totals behind it
+  pub lines_go_on : (ts us : List Partial) (place : ℕ) (bytes : List ℕ) → us ≡ totals_behind_row plan ts (content_row format place bytes)
+      → lines_behind format columns plan new.output new.longest us ≡ behind (lines_behind format columns plan old.output old.longest ts) place bytes
+  unfolding totals_behind
+  lines_go_on ts us place bytes is =
+      ap₂ (λ output longest. lines_behind format columns plan output longest us) same.output same.longest
+      ∙ ap (lines_behind format columns plan old.output old.longest) is
 
-pub writes_whole : (bytes whole : List ℕ) → bytes ≡ whole → writes (bytes ++ []) ≡ writes whole
-writes_whole bytes whole is = ap writes (append-nil bytes ∙ is)
+pub goes_on_so : {A B : Type 0} (result : Result (Option Outcome) Failed) → (A → B) → GoesOn result A → GoesOn result B
+goes_on_so (Ok outcome) follows fact = λ none. follows (fact none)
+goes_on_so (Err failed) follows fact = tt

@@ -15,15 +15,12 @@ use Rattle.select_reply.specs.Answers.{processed}
 use Rattle.select_reply.specs.Begun.{Begun}
 use Rattle.select_reply.specs.Events.{wrapped_frames, whole_events}
 use Rattle.select_reply.specs.Replies.{CountsFit, EachBegins, EachExtends}
-use Rattle.record_stream.specs.Lines.{Lines, is_too_long, failing, listed, cut_yield, gives, yields_of, output_of, IsShort}
+use Rattle.record_stream.specs.Lines.{Lines, behind, is_too_long, failing, listed, cut_yield, gives, behind_cut, yields_of, behind_all, output_of, IsShort}
 use Rattle.record_stream.specs.Replied.{whole_frames, WroteEarly}
-use Rattle.record_stream.specs.Streaming.{Streamed}
-use Rattle.record_stream.specs.LineTurns.{asking}
+use Rattle.record_stream.specs.Streaming.{Stands}
+use Rattle.record_stream.specs.Streaming.{asking}
 use Rattle.record_stream.proofs.Framing.{wrapped_frames-append}
-use Rattle.record_stream.proofs.StreamLaws.{EachFits}
-
-pub yields_of-append : (lines : Lines) (longest : ℕ) (xs ys : List Cut) → yields_of lines longest (xs ++ ys) ≡ yields_of lines longest xs ++ yields_of lines longest ys
-yields_of-append lines longest xs ys = flat_map-append (gives lines longest) xs ys
+use Rattle.record_stream.proofs.LineLaws.{yields_of-append}
 
 total_len-append : (xs ys : List Yielded) → total_len (xs ++ ys) ≡ total_len xs + total_len ys
 total_len-append xs ys = sum_by-append (λ (y : Yielded). y.len) xs ys
@@ -79,47 +76,88 @@ failing-silent : (found : Option Code) → length (output_of (failing found)) �
 failing-silent None = omega arith
 failing-silent (Some code) = omega arith
 
--- what the lines of an object yield, each output short, under a record limit
-module _ (lines : Lines) (longest : ℕ) (short : IsShort lines) (limit : longest ≤ 16777216) where
-  cut-short : (cut : Cut) → length (output_of (cut_yield lines longest cut)) ≤ 33554432
-  cut-short cut =
+-- ---- outputs behind a cut are short too
+
+pub short-behind : (lines : Lines) (place : ℕ) (bytes : List ℕ) → IsShort lines → IsShort (behind lines place bytes)
+short-behind lines place bytes short = record {
+  content = λ seen q xs fits. short.content (record { place = place; bytes = bytes } ∷ seen) q xs fits;
+  end = λ seen. short.end (record { place = place; bytes = bytes } ∷ seen);
+}
+
+pub short-cut : (lines : Lines) (longest : ℕ) (cut : Cut) → IsShort lines → IsShort (behind_cut lines longest cut)
+unfolding behind_cut
+short-cut lines longest cut short =
+    let P : Bool → Type 0 = λ b. IsShort (if b then lines else behind lines cut.start (content cut)) in
+    elim (is_too_long longest cut) as P [ true ↦ short | false ↦ short-behind lines cut.start (content cut) short ]
+
+pub short-all : (lines : Lines) (longest : ℕ) (cuts : List Cut) → IsShort lines → IsShort (behind_all lines longest cuts)
+short-all lines longest [] short = short
+short-all lines longest (cut ∷ cuts) short = short-all (behind_cut lines longest cut) longest cuts (short-cut lines longest cut short)
+
+-- ---- how many bytes cuts yield, under a record limit
+
+module _ (longest : ℕ) (limit : longest ≤ 16777216) where
+  cut-short : (lines : Lines) → IsShort lines → (cut : Cut) → length (output_of (cut_yield lines longest cut)) ≤ 33554432
+  cut-short lines short cut =
       let P : Bool → Type 0 = λ b. is_too_long longest cut ≡ b
-      → length (output_of (if b then failing (lines.of_long cut.start) else lines.of_content cut.start (content cut))) ≤ 33554432 in
+      → length (output_of (if b then failing (lines.of_long cut.start) else lines.of_content [] cut.start (content cut))) ≤ 33554432 in
       (elim (is_too_long longest cut) as P [
         | true ↦ λ long. failing-silent (lines.of_long cut.start)
-        | false ↦ λ fits. short cut.start (content cut) (omega (arith, limit, length-content cut, ltb-false longest (length cut.body) fits))
+        | false ↦ λ fits. short.content [] cut.start (content cut) (omega (arith, limit, length-content cut, ltb-false longest (length cut.body) fits))
       ]) refl
 
-  one-bound : (n : ℕ) (cut : Cut) → cut.whole ≤ n → (total_len (gives lines longest cut) ≤ n) × (length (output (gives lines longest cut)) ≤ 33554432)
+  one-bound : (lines : Lines) → IsShort lines → (n : ℕ) (cut : Cut) → cut.whole ≤ n
+      → (total_len (gives lines longest cut) ≤ n) × (length (output (gives lines longest cut)) ≤ 33554432)
   unfolding gives
-  one-bound n cut whole =
+  one-bound lines short n cut whole =
       let found = cut_yield lines longest cut in (
         omega (arith, whole, listed-len cut.start cut.whole found),
-        subst (λ (bytes : List ℕ). length bytes ≤ 33554432) (sym (listed-output cut.start cut.whole found)) (cut-short cut),
+        subst (λ (bytes : List ℕ). length bytes ≤ 33554432) (sym (listed-output cut.start cut.whole found)) (cut-short lines short cut),
       )
 
   -- so many cuts yield so many bytes
-  pub cuts-bound : (n : ℕ) (cuts : List Cut) → Within n cuts → (total_len (yields_of lines longest cuts) ≤ length cuts * n)
+  pub cuts-bound : (lines : Lines) → IsShort lines → (n : ℕ) (cuts : List Cut) → Within n cuts → (total_len (yields_of lines longest cuts) ≤ length cuts * n)
       × (length (output (yields_of lines longest cuts)) ≤ length cuts * 33554432)
-  cuts-bound n [] within = (omega arith, omega arith)
-  cuts-bound n (cut ∷ cuts) within =
-      let one = one-bound n cut within.0 in
-      let more = cuts-bound n cuts within.1 in
+  cuts-bound lines short n [] within = (omega arith, omega arith)
+  cuts-bound lines short n (cut ∷ cuts) within =
+      let one = one-bound lines short n cut within.0 in
+      let next = behind_cut lines longest cut in
+      let more = cuts-bound next (short-cut lines longest cut short) n cuts within.1 in
       let here = gives lines longest cut in
-      let later = yields_of lines longest cuts in (
+      let later = yields_of next longest cuts in (
         rw (total_len-append here later, suc-mul (length cuts) n) (omega (arith, one.0, more.0)),
         rw (output-append here later, length-append (output here) (output later)) (omega (arith, one.1, more.1)),
       )
 
-  -- the counts of a reply over an object of 64 bits fit 128 bits
-  pub counts-fit : (object : List ℕ) (places done later : List Cut) → places ≡ done ++ later
-      → Within (length object) places → length places < 2 ^ 64 → length object < 2 ^ 64 → CountsFit (yields_of lines longest done)
-  counts-fit object places done later split within few small =
-      let n = length object in
-      let all : length places ≡ length done + length later = ap length split ∙ length-append done later in
-      let bound = cuts-bound n done (within-front n done later (subst (Within n) split within)) in
-      let fits : length done * n ≤ (2 ^ 64 - 1) * n = mul-le-mul_right n (omega arith) in
-      record { scanned = omega (arith, bound.0, fits); returned = omega (arith, bound.1, all, few) }
+-- ---- the counts of a reply over an object of 64 bits fit 128 bits, and one record more fits
+
+pub record Bounded (ys : List Yielded) : Type 0 where
+  pub scanned : total_len ys < 2 ^ 128
+  pub returned : length (output ys) ≤ 2 ^ 64 * 33554432
+
+pub bounded_fits : (ys : List Yielded) → Bounded ys → CountsFit ys
+bounded_fits ys b = record { scanned = b.scanned; returned = omega (arith, b.returned) }
+
+pub one_more_fits : (ys : List Yielded) (start : ℕ) (g : Yield) → Bounded ys → length (bytes_of g) ≤ 33554432 → CountsFit (ys ++ record { start = start; len = 0; gives = g } ∷ [])
+one_more_fits ys start g b short =
+    let z : Yielded = record { start = start; len = 0; gives = g } in
+    record {
+      scanned = omega (arith, b.scanned, total_len-append ys (z ∷ []));
+      returned = rw (output-append ys (z ∷ []), length-append (output ys) (output (z ∷ [])), append-nil (bytes_of g)) (omega (arith, b.returned, short));
+    }
+
+-- the records of the cuts done fit the counts
+abbrev pub EachFits : Lines → ℕ → List Cut → Type 0
+EachFits lines longest cuts = (done later : List Cut) → cuts ≡ done ++ later → Bounded (yields_of lines longest done)
+
+pub counts-fit : (lines : Lines) (longest : ℕ) → IsShort lines → longest ≤ 16777216 → (object : List ℕ) (places : List Cut)
+    → Within (length object) places → length places < 2 ^ 64 → length object < 2 ^ 64 → EachFits lines longest places
+counts-fit lines longest short limit object places within few small = λ done later split.
+    let n = length object in
+    let all : length places ≡ length done + length later = ap length split ∙ length-append done later in
+    let bound = cuts-bound longest limit lines short n done (within-front n done later (subst (Within n) split within)) in
+    let fits : length done * n ≤ (2 ^ 64 - 1) * n = mul-le-mul_right n (omega arith) in
+    record { scanned = omega (arith, bound.0, fits); returned = omega (arith, bound.1, all, few) }
 
 -- ---- where records start
 
@@ -128,9 +166,14 @@ abbrev pub HeadFrom : ℕ → List Yielded → Type 0
 HeadFrom n [] = Unit {0}
 HeadFrom n (y ∷ ys) = n ≤ y.start
 
-head-later : (n m : ℕ) (ys : List Yielded) → n ≤ m → HeadFrom m ys → HeadFrom n ys
-head-later n m [] le h = tt
-head-later n m (y ∷ ys) le h = omega arith
+-- each of the cuts does
+abbrev pub CutsFrom : ℕ → List Cut → Type 0
+CutsFrom n [] = Unit {0}
+CutsFrom n (cut ∷ cuts) = (n ≤ cut.start) × CutsFrom n cuts
+
+cuts-later : (n m : ℕ) (cs : List Cut) → n ≤ m → CutsFrom m cs → CutsFrom n cs
+cuts-later n m [] le from = tt
+cuts-later n m (cut ∷ cs) le from = (omega (arith, from.0), cuts-later n m cs le from.1)
 
 head-listed : (n start len : ℕ) (found : Option Yield) (rest : List Yielded) → n ≤ start → HeadFrom n rest → HeadFrom n (listed start len found ++ rest)
 head-listed n start len None rest here more = more
@@ -140,18 +183,19 @@ head-gives : (lines : Lines) (longest n : ℕ) (cut : Cut) (rest : List Yielded)
 unfolding gives
 head-gives lines longest n cut rest here more = head-listed n cut.start cut.whole (cut_yield lines longest cut) rest here more
 
-head_from : (lines : Lines) (longest : ℕ) (d object : List ℕ) (a k : ℕ) → HeadFrom a (yields_of lines longest (cuts d object a k))
-head_from lines longest d object a zero = tt
-head_from lines longest d object a (suc k) =
+pub head_from : (lines : Lines) (longest n : ℕ) (cs : List Cut) → CutsFrom n cs → HeadFrom n (yields_of lines longest cs)
+head_from lines longest n [] from = tt
+head_from lines longest n (cut ∷ cs) from =
+    head-gives lines longest n cut (yields_of (behind_cut lines longest cut) longest cs) from.0 (head_from (behind_cut lines longest cut) longest n cs from.1)
+
+cuts_from : (d object : List ℕ) (a k : ℕ) → CutsFrom a (cuts d object a k)
+cuts_from d object a zero = tt
+cuts_from d object a (suc k) =
     let later = starts d object (suc a) k in
     let cut = cut_at d object in
-    let rest : HeadFrom a (yields_of lines longest (map cut later)) =
-    head-later a (suc a) (yields_of lines longest (map cut later)) (omega arith) (head_from lines longest d object (suc a) k) in
-    let P : Bool → Type 0 = λ b. HeadFrom a (yields_of lines longest (map cut (if b then a ∷ later else later))) in
-    elim (is_start d object a) as P [
-      | true ↦ head-gives lines longest a (cut a) (yields_of lines longest (map cut later)) (omega arith) rest
-      | false ↦ rest
-    ]
+    let rest : CutsFrom a (map cut later) = cuts-later a (suc a) (map cut later) (omega arith) (cuts_from d object (suc a) k) in
+    let P : Bool → Type 0 = λ b. CutsFrom a (map cut (if b then a ∷ later else later)) in
+    elim (is_start d object a) as P [ true ↦ (omega arith, rest) | false ↦ rest ]
 
 -- a test that fails at the first of the later records
 FailsAt : (Yielded → Bool) → List Yielded → Type 0
@@ -186,17 +230,18 @@ late longest taken n (y ∷ ys) far from = lt-leb (y.start + y.len + (2 * longes
 
 -- the whole pieces of the early records' output have been written
 pub wrote_early : EachBegins → EachExtends → (wrap : List ℕ → List ℕ) (progress : Bool) (limit : Option ℕ) (lines : Lines) (longest upto : ℕ)
-    (object : List ℕ) (places : List Cut) (v : View) (begun : Begun) (before mid : Option (List ℕ))
-    → Streamed (asking wrap progress limit lines longest) object places v begun before mid → upto < v.place + (2 * longest + 5 * 65536)
+    (object : List ℕ) (places done : List Cut) (v : View) (begun : Begun) (before mid : Option (List ℕ)) → places ≡ done ++ left object v
+    → Stands (asking wrap progress limit lines longest) (yields_of lines longest done) begun before mid → upto < v.place + (2 * longest + 5 * 65536)
     → WroteEarly wrap progress longest upto (processed limit (yields_of lines longest places)) before mid
-wrote_early begins extends wrap progress limit lines longest upto object places v begun before mid s far =
-    let ys = yields_of lines longest s.done in
-    let later = yields_of lines longest (left object v) in
+wrote_early begins extends wrap progress limit lines longest upto object places done v begun before mid split s far =
+    let ys = yields_of lines longest done in
+    let later = yields_of (behind_all lines longest done) longest (left object v) in
     let test : Yielded → Bool = λ y. nat_le (y.start + y.len + (2 * longest + 5 * 65536)) upto in
-    let from : HeadFrom v.place later = head_from lines longest v.delimiter object v.place (v.stop - v.place) in
+    let from : HeadFrom v.place later =
+    head_from (behind_all lines longest done) longest v.place (left object v) (cuts_from v.delimiter object v.place (v.stop - v.place)) in
     let on = begins progress limit ys later s.unanswered in
     let all : processed limit (yields_of lines longest places) ≡ ys ++ on.answered =
-    ap (processed limit) (ap (yields_of lines longest) s.split ∙ yields_of-append lines longest s.done (left object v)) ∙ on.goes_on in
+    ap (processed limit) (ap (yields_of lines longest) split ∙ yields_of-append lines longest done (left object v)) ∙ on.goes_on in
     let front = passing-front test ys on.answered (late longest upto v.place on.answered far (front-from v.place later on.answered on.unanswered on.split from)) in
     let passing = take_while test (ys ++ on.answered) in
     let more = extends progress passing front.0 in
@@ -218,8 +263,8 @@ length-left object v within small =
     omega (arith, length-map places (cut_at v.delimiter object), length-starts v.delimiter object v.place (v.stop - v.place))
 
 -- what is asked of them fits the counts
-pub each-fits : (wrap : List ℕ → List ℕ) (progress : Bool) (limit : Option ℕ) (lines : Lines) (longest : ℕ) (object : List ℕ) (v : View)
+pub each-fits : (lines : Lines) (longest : ℕ) (object : List ℕ) (v : View)
     → IsShort lines → longest ≤ 16777216 → v.stop ≤ v.size → v.size < 2 ^ 64 → length object < 2 ^ 64
-    → EachFits (asking wrap progress limit lines longest) (left object v)
-each-fits wrap progress limit lines longest object v short below within small fits = λ done later split.
-    counts-fit lines longest short below object (left object v) done later split (within-left object v) (length-left object v within small) fits
+    → EachFits lines longest (left object v)
+each-fits lines longest object v short below within small fits =
+    counts-fit lines longest short below object (left object v) (within-left object v) (length-left object v within small) fits

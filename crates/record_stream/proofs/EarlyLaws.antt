@@ -1,39 +1,36 @@
 -- Where nothing was read of a range, none of its records is early.
-use Rattle.std.proofs.Common.{◌≡◌, ℕ, ◌+◌, ◌*◌, ◌≤◌, Bool, true, false, ◌&&◌, List, [], ◌∷◌, Option, None, Some, refl, ap, ◌∙◌, arith, cond, if◌then◌else◌}
+use Rattle.std.proofs.Common.{◌≡◌, ℕ, ◌+◌, ◌*◌, ◌≤◌, Bool, true, false, ◌&&◌, List, [], ◌∷◌, length, Option, None, Some, refl, ap, ◌∙◌, arith, cond, if◌then◌else◌}
 use Rattle.std.specs.Prelude.{filter, nat_le}
 use Rattle.std.proofs.lemmas.List.Sums.{take_while-cons}
 use Rattle.std.proofs.lemmas.Bool.{lt-leb, leb-true}
+use Rattle.line_window.specs.Cuts.{Cut, cuts}
 use Rattle.select_reply.specs.Yields.{Yielded}
 use Rattle.select_reply.specs.Answers.{is_answered, processed, shortest_front}
-use Rattle.record_stream.specs.Lines.{Lines}
-use Rattle.record_stream.specs.Selected.{lies_in, first_of, all_yields, yields}
+use Rattle.record_stream.specs.Selected.{lies_in, first_of, selected_cuts, yields}
 use Rattle.record_stream.specs.Early.{UnreadAreLate}
 use Rattle.record_stream.specs.Replied.{early}
-use Rattle.record_stream.proofs.BoundLaws.{HeadFrom}
-
-from_zero : (ys : List Yielded) → HeadFrom 0 ys
-from_zero [] = tt
-from_zero (y ∷ ys) = omega arith
+use Rattle.record_stream.proofs.BoundLaws.{HeadFrom, CutsFrom, head_from}
 
 first_holds : (a b : Bool) → (a && b) ≡ true → a ≡ true
 first_holds true b is = refl
 first_holds false b is = is
 
--- the first record of a range starts in it
-range_from : (range : ℕ × ℕ) (ys : List Yielded) → HeadFrom range.0 (filter (λ (y : Yielded). lies_in (Some range) y.start) ys)
-range_from range [] = tt
-range_from range (y ∷ ys) =
-    let rest = filter (λ (y : Yielded). lies_in (Some range) y.start) ys in
-    let P : Bool → Type 0 = λ b. lies_in (Some range) y.start ≡ b → HeadFrom range.0 (if b then y ∷ rest else rest) in
-    (elim (lies_in (Some range) y.start) as P [
-      | true ↦ λ is. leb-true range.0 y.start (first_holds (nat_le range.0 y.start) (nat_le y.start range.1) is)
-      | false ↦ λ is. range_from range ys
+-- the lines of a range start in it
+range_from : (range : Option (ℕ × ℕ)) (cs : List Cut) → CutsFrom (first_of range) (filter (λ (c : Cut). lies_in range c.start) cs)
+range_from None [] = tt
+range_from None (cut ∷ cs) = range_from None cs
+range_from (Some range) [] = tt
+range_from (Some range) (cut ∷ cs) =
+    let rest = filter (λ (c : Cut). lies_in (Some range) c.start) cs in
+    let P : Bool → Type 0 = λ b. lies_in (Some range) cut.start ≡ b → CutsFrom range.0 (if b then cut ∷ rest else rest) in
+    (elim (lies_in (Some range) cut.start) as P [
+      | true ↦ λ is. (leb-true range.0 cut.start (first_holds (nat_le range.0 cut.start) (nat_le cut.start range.1) is), range_from (Some range) cs)
+      | false ↦ λ is. range_from (Some range) cs
     ]) refl
 
-yields_from : (lines : Lines) (longest : ℕ) (d object : List ℕ) (range : Option (ℕ × ℕ)) → HeadFrom (first_of range) (yields lines longest d object range)
-unfolding yields
-yields_from lines longest d object None = from_zero (filter (λ (y : Yielded). lies_in None y.start) (all_yields lines longest d object))
-yields_from lines longest d object (Some range) = range_from range (all_yields lines longest d object)
+selected_from : (d object : List ℕ) (range : Option (ℕ × ℕ)) → CutsFrom (first_of range) (selected_cuts d object range)
+unfolding selected_cuts
+selected_from d object range = range_from range (cuts d object 0 (length object))
 
 front_from : (n : ℕ) (test : List Yielded → Bool) (ys : List Yielded) → HeadFrom n ys → HeadFrom n (shortest_front test ys)
 front_from n test [] from = tt
@@ -50,4 +47,5 @@ none_early longest n upto (y ∷ ys) near from =
 pub unread_are_late : UnreadAreLate
 unread_are_late lines longest d object range limit upto near =
     let ys = yields lines longest d object range in
-    none_early longest (first_of range) upto (processed limit ys) near (front_from (first_of range) (is_answered limit) ys (yields_from lines longest d object range))
+    none_early longest (first_of range) upto (processed limit ys) near
+    (front_from (first_of range) (is_answered limit) ys (head_from lines longest (first_of range) (selected_cuts d object range) (selected_from d object range)))

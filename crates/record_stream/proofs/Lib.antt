@@ -1,3 +1,4 @@
+mod AloneLaws
 mod BoundLaws
 mod EarlyLaws
 mod Framing

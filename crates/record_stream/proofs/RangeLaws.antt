@@ -6,10 +6,8 @@ use Rattle.line_window.specs.Cuts.{cuts_in, AdjacentCutsAppend}
 use Rattle.line_window.specs.Sliding.{Tells}
 use Rattle.scan_ranges.specs.Resolved.{bounds, resolved}
 use Rattle.select_request.specs.declared.request.ScanRange.{ScanRange}
-use Rattle.select_reply.specs.Answers.{processed}
-use Rattle.record_stream.specs.Lines.{Lines, yields_of}
-use Rattle.record_stream.specs.Selected.{yields}
-use Rattle.record_stream.proofs.SelectedLaws.{none_yields, range_yields}
+use Rattle.record_stream.specs.Selected.{selected_cuts}
+use Rattle.record_stream.proofs.SelectedLaws.{none_cuts, range_cuts}
 
 -- the told object has the size
 pub size_is : (opened : Opened) (object : List ℕ) (size : ℕ) → IsOpen opened size → Tells opened object → length object ≡ size
@@ -24,17 +22,12 @@ module _ (asked : Option ScanRange) (object : List ℕ) (size : ℕ) (found : Op
   pub range_is : (range : Range) → found ≡ Some range → resolved asked (length object) ≡ Some (range.first, range.last)
   range_is range some = resolved_at ∙ ap bounds some
 
-  -- a range without a byte has no records
-  pub processed_none : (lines : Lines) (longest : ℕ) (d : List ℕ) (limit : Option ℕ) → found ≡ None
-      → processed limit (yields lines longest d object (resolved asked (length object))) ≡ []
-  processed_none lines longest d limit none =
-      ap (λ r. processed limit (yields lines longest d object r)) (resolved_at ∙ ap bounds none) ∙ ap (processed limit) (none_yields lines longest d object)
+  -- a range without a byte has no line
+  pub selects_none : (d : List ℕ) → found ≡ None → selected_cuts d object (resolved asked (length object)) ≡ []
+  selects_none d none = ap (selected_cuts d object) (resolved_at ∙ ap bounds none) ∙ none_cuts d object
 
   -- any other has those of its cuts
-  pub processed_some : AdjacentCutsAppend → (lines : Lines) (longest : ℕ) (d : List ℕ) (limit : Option ℕ) (range : Range) → found ≡ Some range
-      → range.first ≤ range.last → range.last < length object
-      → processed limit (yields lines longest d object (resolved asked (length object)))
-      ≡ processed limit (yields_of lines longest (cuts_in d object range.first range.last))
-  processed_some adjacent lines longest d limit range some up within =
-      ap (λ r. processed limit (yields lines longest d object r)) (range_is range some)
-      ∙ ap (processed limit) (range_yields adjacent lines longest d object range.first range.last up within)
+  pub selects_some : AdjacentCutsAppend → (d : List ℕ) (range : Range) → found ≡ Some range → range.first ≤ range.last → range.last < length object
+      → selected_cuts d object (resolved asked (length object)) ≡ cuts_in d object range.first range.last
+  selects_some adjacent d range some up within =
+      ap (selected_cuts d object) (range_is range some) ∙ range_cuts adjacent d object range.first range.last up within

@@ -1,13 +1,16 @@
 //! Laws of tilings, and of records that nothing was read of.
 ghost use Rattle.record_stream.specs.Early.{UnreadAreLate};
-ghost use Rattle.record_stream.specs.Tiling.{EachTilingJoins, EachTilingMakesTheWhole};
+ghost use Rattle.record_stream.specs.Tiling.{EachLineIsInOneTile, EachRangeSelects, EachTilingJoins, EachTilingMakesTheWhole};
 
 use line_window::adjacent_ranges_append;
 use select_reply::tiles_make_the_whole;
 
-/// The records of the tiles of an object, joined in order, are those of the whole object, each in one tile. Where none of them has a
-/// code, the output that the replies over the tiles carry, joined, is that of the reply over the whole, and their counts sum to its.
+/// The lines that start in the tiles of an object, joined in order, are those of the whole object, each in one tile. Without totals so are
+/// their records, and the records of a range are those of all that start in it. Where none of them has a code, the output that the replies
+/// over the tiles carry, joined, is that of the reply over the whole, and their counts sum to its.
 pub fn tiles_have_each_record_once()
+    ensures lines { EachLineIsInOneTile }
+    ensures selects { EachRangeSelects }
     ensures join { EachTilingJoins }
     ensures whole { EachTilingMakesTheWhole }
 {

@@ -46,7 +46,7 @@ pub(crate) fn write_items<R: Row>(
 }
 
 /// The name at a place, if one stands there.
-fn name_of(names: &[TextBuf], k: usize) -> Option<&str>
+pub(crate) fn name_of(names: &[TextBuf], k: usize) -> Option<&str>
     ensures { option_copied result ≡ slice_get names.now k }
 {
     match names.get(k) {

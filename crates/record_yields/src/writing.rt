@@ -44,7 +44,7 @@ pub fn write_row<R: Row>(out: &mut Out, columns: &Columns, plan: &Plan, row: &R)
 
 /// Whether the condition keeps a row.
 #[inline]
-fn passes<R: Row>(filter: &Option<Bound>, row: &R) -> Result<bool, ValueFault>
+pub(crate) fn passes<R: Row>(filter: &Option<Bound>, row: &R) -> Result<bool, ValueFault>
     ensures { result ≡ passes filter.now (R.cells row.now) }
 {
     match filter {

@@ -1,5 +1,5 @@
 -- What a request asks.
-use Rattle.std.proofs.Common.{◌≡◌, ◌⊎◌, inl, inr, ℕ, Bool, true, false, ◌&&◌, refl}
+use Rattle.std.proofs.Common.{◌≡◌, ◌⊎◌, inl, Bool, true, false, ◌&&◌, refl}
 use Rattle.std.specs.Prelude.{IsTrue}
 use Rattle.select_request.specs.Printable.{is_input, is_output, is_range_of, is_valid}
 use Rattle.select_request.specs.declared.request.SelectRequest.{SelectRequest}

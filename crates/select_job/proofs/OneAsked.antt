@@ -1,10 +1,10 @@
 -- A body asks one thing.
-use Rattle.std.proofs.Common.{◌≡◌, ℕ, Bool, true, false, List, Result, Ok, Err, refl, sym, ap, ap₂, subst, ◌∙◌, ◌⊎◌, inl, inr}
+use Rattle.std.proofs.Common.{◌≡◌, ℕ, true, List, Result, Ok, Err, sym, ap, ap₂, subst, ◌∙◌, ◌⊎◌, inl, inr}
 use Rattle.select_request.specs.Reading.{HasReading, Reads}
 use Rattle.select_request.specs.declared.request.SelectRequest.{SelectRequest}
 use Rattle.select_request.specs.declared.fault.RequestFault.{RequestFault}
 use Rattle.select_request.specs.declared.fault.ReadError.TheVariants.{Refused}
-use Rattle.sql_grammar.specs.Faults.{Spells, FaultOf, Parses, OneParse}
+use Rattle.sql_grammar.specs.Faults.{Spells, FaultOf, OneParse}
 use Rattle.sql_grammar.specs.declared.error.SqlError.{SqlError}
 use Rattle.sql_grammar.specs.declared.tree.Query.{Query}
 use Rattle.select_job.specs.Jobs.{Job}
@@ -61,10 +61,9 @@ module _ (one : (body : List ℕ) (reading other : Result SelectRequest RequestF
       query_refusals q.request c d at place (subst (λ r. IsRefusedQuery r c at ⊎ IsUnbuilt r c at) (same_request p.request q.request p.read q.read) p.refused) q.refused
 
   -- a query that is asked isn't refused
-  not_refused_too : (r : SelectRequest) (q : Query) (c : Code) (at : ℕ) → Spells r.expression q → is_built r q ≡ true → IsRefusedQuery r c at ⊎ IsUnbuilt r c at → ⊥
+  not_refused_too : (r : SelectRequest) (q : Query) (c : Code) (at : ℕ) → Spells r.expression q → is_built r ≡ true → IsRefusedQuery r c at ⊎ IsUnbuilt r c at → ⊥
   not_refused_too r q c at spelled built (inl p) = not_refused parse r.expression q p.error spelled p.refused
-  not_refused_too r q c at spelled built (inr p) =
-      let same = ap (is_built r) (same_query parse r.expression q p.query spelled p.spelled) in let no = p.unbuilt in cc
+  not_refused_too r q c at spelled built (inr p) = let no = p.unbuilt in cc
 
   asked_refused : (c : Code) (at : ℕ) (job : Job) → HasBodyFault body c at ⊎ HasQueryFault body c at → IsAsked body job → ⊥
   asked_refused c at job (inl p) q = not_both job.request p.fault q.read p.read

@@ -1,5 +1,5 @@
 -- What a body asks: a query over an object, or the refusal of the body or of its expression.
-use Rattle.std.specs.Prelude.{◌≡◌, ◌⊎◌, ◌&&◌, not, ℕ, Bool, true, false, List, Result, Ok, Err}
+use Rattle.std.specs.Prelude.{◌≡◌, ◌⊎◌, ℕ, true, false, List, Result, Ok, Err}
 use Rattle.select_request.specs.Reading.{Reads}
 use Rattle.select_request.specs.declared.request.SelectRequest.{SelectRequest}
 use Rattle.select_request.specs.declared.fault.RequestFault.{RequestFault}
@@ -36,7 +36,7 @@ pub record IsRefusedQuery (request : SelectRequest) (code : Code) (at : ℕ) : T
 pub record IsUnbuilt (request : SelectRequest) (code : Code) (at : ℕ) : Type 0 where
   pub query : Query
   pub spelled : Spells request.expression query
-  pub unbuilt : is_built request query ≡ false
+  pub unbuilt : is_built request ≡ false
   pub named : code ≡ NotBuilt
   pub placed : at ≡ 0
 
@@ -50,7 +50,7 @@ pub record HasQueryFault (body : List ℕ) (code : Code) (at : ℕ) : Type 0 whe
 pub record IsAsked (body : List ℕ) (job : Job) : Type 0 where
   pub read : Reads body (Ok job.request)
   pub spelled : Spells job.request.expression job.query
-  pub built : is_built job.request job.query ≡ true
+  pub built : is_built job.request ≡ true
 
 -- what a body asks: its own refusal comes first, then that of its expression
 abbrev pub Prepares : List ℕ → Asked → Type 0
@@ -66,7 +66,7 @@ EachAsksOneThing = (body : List ℕ) (asked other : Asked) → Prepares body ask
 -- what a request that was read asks
 abbrev pub AsksQuery : SelectRequest → Asked → Type 0
 AsksQuery request (asked.Refused code at) = IsRefusedQuery request code at ⊎ IsUnbuilt request code at
-AsksQuery request (asked.Asks job) = (job.request ≡ request) × Spells request.expression job.query × (is_built request job.query ≡ true)
+AsksQuery request (asked.Asks job) = (job.request ≡ request) × Spells request.expression job.query × (is_built request ≡ true)
 
 -- a refusal tells the text's fault
 abbrev pub RefusesOf : List ℕ → ParseError → Type 0

@@ -4,13 +4,13 @@ ghost use Rattle.select_request.specs.Printable.{is_input};
 ghost use Rattle.sql_grammar.specs.Faults.{Spells};
 ghost use Rattle.sql_lawful.specs.Lawful.{IsLawful};
 ghost use Rattle.select_job.specs.Prepared.{Prepares, AsksQuery, IsParsed, RefusesOf};
-ghost use Rattle.select_job.specs.Built.{is_built, is_built_input, is_built_selection};
+ghost use Rattle.select_job.specs.Built.{is_built, is_built_input};
 
 use crate::codes::{request_code, sql_code};
 use crate::job::Job;
 use select_reply::Code;
 use select_request::{Input, ReadError, SelectRequest};
-use select_sql::{ParseError, Query, Selection, parse};
+use select_sql::{ParseError, Query, parse};
 use sqlite_items::Boxed;
 use std::alloc::{AllocError, Global};
 
@@ -22,7 +22,7 @@ pub enum Asked {
     Asks(Job),
 }
 
-/// Reads a body and its expression: the body's refusal comes first, then the expression's, then that of a query that isn't built.
+/// Reads a body and its expression: the body's refusal comes first, then the expression's, then that of an object over which queries aren't built.
 #[tactic(auto, using(crate::proofs::Asking::valid_input))]
 pub fn prepare(alloc: Global, body: &[u8]) -> Result<Asked, AllocError>
     ensures { IfOk result (Prepares body.now) }
@@ -81,7 +81,7 @@ fn unless_unbuilt(request: SelectRequest, query: Boxed<Query>) -> Asked
     requires lawful { IsLawful query }
     ensures { AsksQuery request result }
 {
-    if is_built(&request, query.get()) {
+    if is_built(&request) {
         Asked::Asks(Job::of(request, query))
     } else {
         Asked::Refused {
@@ -91,11 +91,11 @@ fn unless_unbuilt(request: SelectRequest, query: Boxed<Query>) -> Asked
     }
 }
 
-// Whether the query is built so far.
-fn is_built(request: &SelectRequest, query: &Query) -> bool
-    ensures { result ≡ is_built request.now query.now }
+// Whether what is asked is built so far.
+fn is_built(request: &SelectRequest) -> bool
+    ensures { result ≡ is_built request.now }
 {
-    is_built_input(request.input) && is_built_selection(&query.items)
+    is_built_input(request.input)
 }
 
 // Whether the lines of the object are read: CSV whose quoted fields hold no record delimiters, and JSON Lines.
@@ -107,16 +107,5 @@ fn is_built_input(input: Input) -> bool
         Input::JsonLines => true,
         Input::JsonDocument => false,
         Input::Parquet => false,
-    }
-}
-
-// Whether there are no aggregates.
-fn is_built_selection(selection: &Selection) -> bool
-    ensures { result ≡ is_built_selection selection.now }
-{
-    match selection {
-        Selection::All => true,
-        Selection::Rows(_) => true,
-        Selection::Totals(_) => false,
     }
 }

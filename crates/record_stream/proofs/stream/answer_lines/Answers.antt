@@ -1,11 +1,13 @@
-use Rattle.std.proofs.Common.{◌-◌, refl, sym, ap, ◌∙◌, subst, arith}
+use Rattle.std.proofs.Common.{◌-◌, ◌++◌, refl, sym, ap, ◌∙◌, subst, arith}
 use Rattle.std.specs.Prelude.{is_err}
 use Rattle.line_window.specs.Sliding.{left}
+use Rattle.line_window.specs.Answers.{IsNextCut}
 use Rattle.select_reply.specs.Begun.{Begun, is_full}
-use Rattle.record_stream.specs.LineTurns.{asking, turn_of}
-use Rattle.record_stream.specs.Streaming.{Streamed}
-use Rattle.record_stream.proofs.StreamLaws.{stream_begins, stream_stays, open_after, free_unanswered}
-use Rattle.record_stream.proofs.LineStreams.{lines_front, line_on, line_ended, line_front}
+use Rattle.record_stream.specs.LineTurns.{turn_of, behind_line, last_behind}
+use Rattle.record_stream.specs.Streaming.{asking}
+use Rattle.record_stream.specs.Turns.{after_turn}
+use Rattle.record_stream.proofs.StreamLaws.{open_after, free_unanswered}
+use Rattle.record_stream.proofs.LineStreams.{stream_begins, stream_front, streamed_as, window_fits, line_on, line_ended, line_front}
 use Rattle.record_stream.proofs.BoundLaws.{wrote_early}
 use Rattle.record_stream.proofs.WindowSteps.{open_stays, rules_stay, same_rules, took_none, took_more, took_at_most, given, not_given, read_near}
 use Rattle.record_stream.proofs.stream.answer_lines.Goals as goal
@@ -29,12 +31,10 @@ turns-init g c =
       store_faults = omega arith;
       out_faults = omega arith;
       rest = refl;
-      same = refl;
       told = λ object tells holds.
-          let a = asking g.K.FrameSink.wrap reply.progress reply.left (g.Y.LineYields.lines c.args.lines.now) window.longest in
-          let written = g.K.FrameSink.written c.args.out.now in
-          subst (λ (b : Begun). Streamed a object (left object window) window b written written) (sym c.requires.fresh)
-          (stream_begins a object window written (free_unanswered reply.left c.requires.free) holds);
+          stream_begins (asking g.K.FrameSink.wrap reply.progress reply.left (g.Y.LineYields.lines c.args.lines.now) window.longest) object window
+          (g.Y.LineYields.last c.args.lines.now) reply (g.K.FrameSink.written c.args.out.now)
+          (free_unanswered reply.left c.requires.free) holds c.requires.fresh c.requires.begins;
     }
 
 pub returns-in-Err-clause-reply : goal.returns-in-Err-clause-reply
@@ -42,9 +42,10 @@ returns-in-Err-clause-reply g c = λ object tells holds.
     let law = c.replies_grow_by_records.ensures in
     let window = c.args.window.now in
     let reply = c.args.reply.now in
-    lines_front law.on law.out law.stop law.begins g.K.FrameSink.wrap reply.progress reply.left (g.Y.LineYields.lines c.args.lines.now) window.longest object window
-    c.requires.short c.requires.sound.limit c.requires.within c.requires.small holds
-    c.turns.window c.turns.reply _ _ (c.turns.invariant.told object tells holds)
+    let lines = g.Y.LineYields.lines c.args.lines.now in
+    stream_front law.on law.out law.stop law.begins (asking g.K.FrameSink.wrap reply.progress reply.left lines window.longest) object (left object window)
+    c.requires.short (window_fits lines window.longest object window c.requires.short c.requires.sound.limit c.requires.within c.requires.small holds)
+    c.turns.window (g.Y.LineYields.lines c.turns.lines) (g.Y.LineYields.last c.turns.lines) c.turns.reply _ _ (c.turns.invariant.told object tells holds)
 
 pub returns-in-Err-clause-early : goal.returns-in-Err-clause-early
 returns-in-Err-clause-early g c = λ object upto tells holds few is.
@@ -59,8 +60,8 @@ returns-in-Err-clause-early g c = λ object upto tells holds few is.
     let still = not_given _ c.turns.window w c.next.result c.in-Err.field-0 _ _ object t c.in-Err.is _ i.current tells s.holds in
     let read = took_at_most _ _ _ (took_more _ _ (w.upto - window.upto) _ _ _ (omega (arith, t.forward, i.forward)) i.taken t.taken) in
     let rules = rules_stay _ _ _ i.rules t.rules in
-    wrote_early law.begins law.extends g.K.FrameSink.wrap reply.progress reply.left lines window.longest _ object (left object window) w c.turns.reply _ _
-    (stream_stays (asking g.K.FrameSink.wrap reply.progress reply.left lines window.longest) object (left object window) c.turns.window w c.turns.reply _ _ s still.0 still.1)
+    wrote_early law.begins law.extends g.K.FrameSink.wrap reply.progress reply.left lines window.longest _ object (left object window) s.done w c.turns.reply _ _
+    (s.split ∙ ap (λ l. s.done ++ l) (sym still.1)) s.answered
     (read_near w window.longest upto t.sound rules.longest (omega (arith, few, read, c.requires.near, t.forward, i.forward)))
 
 pub turns-preserved : goal.turns-preserved
@@ -73,13 +74,15 @@ turns-preserved g c =
     let reply = c.args.reply.now in
     let lines = g.Y.LineYields.lines c.args.lines.now in
     let now = g.Y.LineYields.lines c.turns.lines in
+    let last = g.Y.LineYields.last c.turns.lines in
+    let line = c.in-Ok.line in
     let after = c.in-Ok-None.ensures.after c.in-Ok-None.field-0-is in
     let goes = sym c.in-Ok-None.ensures.outcome ∙ c.in-Ok-None.field-0-is in
     record {
       open_ = open_stays _ _ _ _ c.next.ensures.current t.rules.size i.open_;
       sound = t.sound;
       works = t.failed ∙ ap is_err c.in-Ok.is;
-      free = ap (λ (b : Begun). is_full b.left) after ∙ open_after c.turns.reply (turn_of now c.in-Ok.line) i.free goes;
+      free = ap (λ (b : Begun). is_full b.left) after ∙ open_after c.turns.reply (turn_of now last line) i.free goes;
       rules = rules_stay _ _ _ i.rules t.rules;
       forward = omega (arith, t.forward, i.forward);
       near = omega (arith, t.near, i.near, i.rules.stop, i.rules.longest);
@@ -90,15 +93,19 @@ turns-preserved g c =
       store_faults = omega (arith, i.store_faults, c.next.ensures.faults);
       out_faults = omega (arith, i.out_faults, c.in-Ok-None.ensures.faults.kept);
       rest = c.in-Ok-None.ensures.rest ∙ i.rest;
-      same = c.in-Ok-None.ensures.same ∙ i.same;
       told = λ object tells holds.
           let s = i.told object tells holds in
-          let next = given _ c.turns.window w c.next.result c.in-Ok.line _ _ object t c.in-Ok.is _ i.current tells s.holds in
-          subst (λ (b : Begun). Streamed (asking g.K.FrameSink.wrap reply.progress reply.left lines window.longest) object (left object window) w b
-          (g.K.FrameSink.written c.args.out.now) (g.K.FrameSink.written c.answer.new.out)) (sym after)
-          (line_on law.on law.out law.stop law.begins g.K.FrameSink.wrap reply.progress reply.left lines window.longest object window
-          c.requires.short c.requires.sound.limit c.requires.within c.requires.small holds
-          c.turns.window w c.turns.reply c.in-Ok.line now _ _ _ s i.same i.rules.longest next goes c.in-Ok-None.ensures.bytes);
+          let a = asking g.K.FrameSink.wrap reply.progress reply.left lines window.longest in
+          let next = given _ c.turns.window w c.next.result line _ _ object t c.in-Ok.is _ i.current tells s.holds in
+          let cut : IsNextCut window.longest (left object c.turns.window) (left object w) line =
+          subst (λ n. IsNextCut n (left object c.turns.window) (left object w) line) i.rules.longest next.1 in
+          streamed_as a object (left object window) w (behind_line now line) (g.Y.LineYields.lines c.answer.new.self)
+          (last_behind last (turn_of now last line)) (g.Y.LineYields.last c.answer.new.self) (after_turn c.turns.reply (turn_of now last line)) c.answer.new.reply
+          (g.K.FrameSink.written c.args.out.now) (g.K.FrameSink.written c.answer.new.out)
+          (c.in-Ok-None.ensures.behind c.in-Ok-None.field-0-is) (c.in-Ok-None.ensures.last c.in-Ok-None.field-0-is) after
+          (line_on law.on law.out law.stop law.begins a object (left object window)
+          c.requires.short (window_fits lines window.longest object window c.requires.short c.requires.sound.limit c.requires.within c.requires.small holds)
+          c.turns.window now last c.turns.reply _ _ s w line _ (next.0, cut) goes c.in-Ok-None.ensures.bytes);
     }
 
 pub returns-in-Ok-Some-clause-reply : goal.returns-in-Ok-Some-clause-reply
@@ -109,11 +116,15 @@ returns-in-Ok-Some-clause-reply g c = λ object tells holds.
     let w = c.next.follows.lender-at-none in
     let window = c.args.window.now in
     let reply = c.args.reply.now in
+    let lines = g.Y.LineYields.lines c.args.lines.now in
+    let line = c.in-Ok.line in
     let s = i.told object tells holds in
-    let next = given _ c.turns.window w c.next.result c.in-Ok.line _ _ object t c.in-Ok.is _ i.current tells s.holds in
-    line_ended law.on law.out law.stop law.begins g.K.FrameSink.wrap reply.progress reply.left (g.Y.LineYields.lines c.args.lines.now) window.longest object window
-    c.requires.short c.requires.sound.limit c.requires.within c.requires.small holds
-    c.turns.window w c.turns.reply c.in-Ok.line (g.Y.LineYields.lines c.turns.lines) _ _ _ c.in-Ok-Some.outcome s i.same i.rules.longest next.1
+    let next = given _ c.turns.window w c.next.result line _ _ object t c.in-Ok.is _ i.current tells s.holds in
+    let cut : IsNextCut window.longest (left object c.turns.window) (left object w) line =
+    subst (λ n. IsNextCut n (left object c.turns.window) (left object w) line) i.rules.longest next.1 in
+    line_ended law.on law.out law.stop law.begins (asking g.K.FrameSink.wrap reply.progress reply.left lines window.longest) object (left object window)
+    c.requires.short (window_fits lines window.longest object window c.requires.short c.requires.sound.limit c.requires.within c.requires.small holds)
+    c.turns.window (g.Y.LineYields.lines c.turns.lines) (g.Y.LineYields.last c.turns.lines) c.turns.reply _ _ s (left object w) line _ c.in-Ok-Some.outcome cut
     (sym c.in-Ok-Some.ensures.outcome ∙ c.in-Ok-Some.field-0-is) c.in-Ok-Some.ensures.bytes
 
 pub returns-in-Err-answer-clause-reply : goal.returns-in-Err-answer-clause-reply
@@ -124,11 +135,15 @@ returns-in-Err-answer-clause-reply g c = λ object tells holds.
     let w = c.next.follows.lender-at-none in
     let window = c.args.window.now in
     let reply = c.args.reply.now in
+    let lines = g.Y.LineYields.lines c.args.lines.now in
+    let line = c.in-Ok.line in
     let s = i.told object tells holds in
-    let next = given _ c.turns.window w c.next.result c.in-Ok.line _ _ object t c.in-Ok.is _ i.current tells s.holds in
-    line_front law.on law.out law.stop law.begins g.K.FrameSink.wrap reply.progress reply.left (g.Y.LineYields.lines c.args.lines.now) window.longest object window
-    c.requires.short c.requires.sound.limit c.requires.within c.requires.small holds
-    c.turns.window w c.turns.reply c.in-Ok.line (g.Y.LineYields.lines c.turns.lines) _ _ _ s i.same i.rules.longest next.1
+    let next = given _ c.turns.window w c.next.result line _ _ object t c.in-Ok.is _ i.current tells s.holds in
+    let cut : IsNextCut window.longest (left object c.turns.window) (left object w) line =
+    subst (λ n. IsNextCut n (left object c.turns.window) (left object w) line) i.rules.longest next.1 in
+    line_front law.on law.out law.stop law.begins (asking g.K.FrameSink.wrap reply.progress reply.left lines window.longest) object (left object window)
+    c.requires.short (window_fits lines window.longest object window c.requires.short c.requires.sound.limit c.requires.within c.requires.small holds)
+    c.turns.window (g.Y.LineYields.lines c.turns.lines) (g.Y.LineYields.last c.turns.lines) c.turns.reply _ _ s (left object w) line _ cut
     c.in-Err-answer.ensures.bytes
 
 pub returns-in-Err-clause-rules : goal.returns-in-Err-clause-rules
