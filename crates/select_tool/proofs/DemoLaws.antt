@@ -1,6 +1,6 @@
 -- The summary over the sample object and its tiles.
 use Rattle.std.proofs.Common.{◌≡◌, ℕ, ◌+◌, ◌≤◌, Bool, true, false, ◌&&◌, List, [], ◌∷◌, ◌++◌, length, map, Option, None, Some, Result, Ok, Err, IfOk, refl, sym, ap, ◌∙◌, subst, arith, append_assoc, append-nil, add-one}
-use Rattle.std.specs.Prelude.{is_none}
+use Rattle.std.specs.Prelude.{is_none, not}
 use Rattle.std.proofs.lemmas.List.{length-append}
 use Rattle.sample_objects.specs.Objects.{sample, head_of, lines_below}
 use Rattle.sample_objects.specs.declared.kind.SampleKind.TheVariants.{Csv}
@@ -15,7 +15,7 @@ use Rattle.select_job.specs.Prepared.{Prepares}
 use Rattle.select_tool.specs.Words.{longest_record}
 use Rattle.select_tool.specs.Replies.{reply_outcome}
 use Rattle.select_tool.specs.Tiles.{tile_of, tile_ranges}
-use Rattle.select_tool.specs.Whole.{payload_of, payloads_of, whole_of, JoinsTo, EachTilingMakesWhole}
+use Rattle.select_tool.specs.Whole.{has_totals, payload_of, payloads_of, whole_of, JoinsTo, EachTilingMakesWhole}
 use Rattle.select_tool.specs.Demo.{sevenths, tile_line, tile_lines, tile_outcome, is_done, Joins, Summarizes, demo_body, summary}
 
 -- the head of a sample object is longer than its number of tiles
@@ -42,6 +42,10 @@ none_is : {A : Type 0} → (o : Option A) → is_none o ≡ true → o ≡ None
 none_is None h = refl
 none_is (Some x) h = absurd cc
 
+not_is : (a : Bool) → not a ≡ true → a ≡ false
+not_is false h = refl
+not_is true h = absurd cc
+
 whole_same : (job : Job) → job.request.range ≡ None → with_range job None ≡ job
 whole_same job none = ap (with_range job) (sym none)
 
@@ -54,14 +58,19 @@ pub joins_all : EachTilingMakesWhole → (object : List ℕ) → 7 ≤ length ob
 joins_all law object long (Refused code at) = tt
 joins_all law object long (Asks job) = λ joined.
     let ended = reply_outcome longest_record object (Asks job) in
-    let both = left_of (is_none job.request.range && is_none job.query.limit) (is_done ended) joined in
-    let done = right_of (is_none job.request.range && is_none job.query.limit) (is_done ended) joined in
-    let unranged = none_is job.request.range (left_of (is_none job.request.range) (is_none job.query.limit) both) in
-    let unlimited = none_is job.query.limit (right_of (is_none job.request.range) (is_none job.query.limit) both) in
+    let none = is_none job.request.range in
+    let all = is_none job.query.limit in
+    let rows = not (has_totals job.query.items) in
+    let three = left_of (none && all && rows) (is_done ended) joined in
+    let done = right_of (none && all && rows) (is_done ended) joined in
+    let two = left_of (none && all) rows three in
+    let unranged = none_is job.request.range (left_of none all two) in
+    let unlimited = none_is job.query.limit (right_of none all two) in
+    let plain = not_is (has_totals job.query.items) (right_of (none && all) rows three) in
     let same = whole_same job unranged in
     let whole = law longest_record object job (sevenths (length object)) (ascend_sevenths (length object) long) in
     by_outcome object job (sevenths (length object)) (reply_outcome longest_record object (whole_of job))
-    (ap (λ (j : Job). is_done (reply_outcome longest_record object (Asks j))) same ∙ done) (whole.joined unlimited)
+    (ap (λ (j : Job). is_done (reply_outcome longest_record object (Asks j))) same ∙ done) (whole.joined plain unlimited)
     ∙ ap (λ (j : Job). payload_of longest_record object (Asks j)) same
 
 -- the text of a query over the sample object is its summary

@@ -25,22 +25,26 @@ use Rattle.record_rows.specs.declared.format.LineFormat.{LineFormat}
 use Rattle.scan_plan.specs.declared.columns.Columns.{Columns}
 use Rattle.scan_plan.specs.declared.plans.BindFault.{BindFault}
 use Rattle.scan_plan.specs.declared.plans.Plan.{Plan}
-use Rattle.scan_plan.specs.Plans.{planned, planned_unless, plan_with}
+use Rattle.scan_plan.specs.Plans.{planned, planned_unless, plan_with, bound_selection}
 use Rattle.scan_plan.specs.Finds.{query_finds, used_columns, bind_fault}
+use Rattle.sql_grammar.specs.declared.tree.Name.{Name}
 use Rattle.sql_grammar.specs.declared.tree.Query.{Query}
-use Rattle.record_stream.specs.Lines.{Lines}
-use Rattle.record_stream.specs.Selected.{lies_in, all_yields, yields}
-use Rattle.record_stream.specs.Tiling.{Ascend, ranges_from, EachTilingJoins}
+use Rattle.sql_grammar.specs.declared.tree.Selection.{Selection}
+use Rattle.sql_grammar.specs.declared.tree.Selection.TheVariants as selection
+use Rattle.line_window.specs.Cuts.{Cut, content}
+use Rattle.record_stream.specs.Lines.{Seen, Lines, IsWithoutTotals, behind, is_too_long, behind_cut, behind_all, end_of}
+use Rattle.record_stream.specs.Selected.{lies_in, selected_cuts, yields}
+use Rattle.record_stream.specs.Tiling.{Ascend, ranges_from, all_yields, EachLineIsInOneTile, EachRangeSelects, EachTilingJoins}
 use Rattle.select_job.specs.Jobs.{Job}
 use Rattle.planned_lines.specs.declared.planned.Planned.{Planned}
 use Rattle.object_plan.specs.Columns.{columns_of}
-use Rattle.planned_lines.specs.LineYields.{lines_of}
+use Rattle.planned_lines.specs.LineYields.{lines_of, has_aggregates, PlannedLinesAreAlone}
 use Rattle.select_job.specs.Jobs.{request_with, with_range}
 use Rattle.object_plan.specs.Planning.{bound_to, bound_in, planned_over}
-use Rattle.select_engine.specs.Answered.{answered_in, answered_by, answered, ended, events_of}
+use Rattle.select_engine.specs.Answered.{answered_in, answered_by, answered_with, answered, ended, events_of}
 use Rattle.select_tool.specs.Replies.{reply_outcome}
 use Rattle.select_tool.specs.Tiles.{tile_ranges, tile_of, has_error, any_error}
-use Rattle.select_tool.specs.Whole.{places_of, yields_by, yields_in, payload_of, payloads_of, counts_of, summed, whole_of, JoinsTo, MakesWhole, EachTilingMakesWhole}
+use Rattle.select_tool.specs.Whole.{places_of, yields_by, yields_in, lines_by, lines_in, has_totals, payload_of, payloads_of, counts_of, summed, whole_of, JoinsTo, MakesWhole, EachTilingMakesWhole}
 
 -- ---- the first record with a code
 
@@ -91,6 +95,29 @@ second_of_two true b h = absurd cc
 neither : (a b : Bool) → a ≡ false → b ≡ false → (a || b) ≡ false
 neither a b h k = rw (h, k) refl
 
+-- ---- without totals
+
+behind_alone : (lines : Lines) (place : ℕ) (bytes : List ℕ) → IsWithoutTotals lines → IsWithoutTotals (behind lines place bytes)
+behind_alone lines place bytes is =
+    let line : Seen = record { place = place; bytes = bytes } in
+    record {
+      alone = λ seen start content. is.alone (line ∷ seen) start content ∙ sym (is.alone (line ∷ []) start content);
+      ends = λ seen. is.ends (line ∷ seen);
+    }
+
+cut_alone : (lines : Lines) (longest : ℕ) (cut : Cut) → IsWithoutTotals lines → IsWithoutTotals (behind_cut lines longest cut)
+unfolding behind_cut
+cut_alone lines longest cut is =
+    (elim (is_too_long longest cut) as (λ b. IsWithoutTotals (if b then lines else behind lines cut.start (content cut))) [
+      | true ↦ is
+      | false ↦ behind_alone lines cut.start (content cut) is
+    ])
+
+-- no record stands behind the last line
+none_behind : (lines : Lines) (longest : ℕ) → IsWithoutTotals lines → (cuts : List Cut) → end_of lines longest cuts ≡ None
+none_behind lines longest is [] = is.ends []
+none_behind lines longest is (cut ∷ cuts) = none_behind (behind_cut lines longest cut) longest (cut_alone lines longest cut is) cuts
+
 -- ---- a query that is bound, without a limit
 
 module _ (longest : ℕ) (object : List ℕ) (job : Job) (format : LineFormat) (p : Planned) (has_format : format_of job.request.input ≡ Some format)
@@ -106,18 +133,20 @@ module _ (longest : ℕ) (object : List ℕ) (job : Job) (format : LineFormat) (
       ap (λ f. yields_by longest f (planned_over longest object job.request.input job.query) object (request_with job.request range)) has_format
       ∙ ap (λ q. yields_by longest (Some format) q object (request_with job.request range)) is_planned
 
+  module _ (selects : EachRangeSelects) (alone : IsWithoutTotals (lines_of format p.columns p.plan job.request.output longest)) where
+    tile_starts : (range : ScanRange) → StartsIn (lies_in (places_of object range)) (yields_in longest object job (Some range))
+    tile_starts range =
+        let lines = lines_of format p.columns p.plan job.request.output longest in
+        subst (StartsIn (lies_in (places_of object range)))
+        (sym (yields_are (Some range) ∙ selects lines longest (line_delimiter format) object (places_of object range) alone))
+        (starts_in (lies_in (places_of object range)) (all_yields lines longest (line_delimiter format) object))
+
   -- what the records of a range yield
   abbrev of_range : ScanRange → List Yielded
   of_range range = yields_in longest object job (Some range)
 
   abbrev of_ranges : List ScanRange → List (List Yielded)
   of_ranges ranges = map of_range ranges
-
-  tile_starts : (range : ScanRange) → StartsIn (lies_in (places_of object range)) (of_range range)
-  unfolding yields
-  tile_starts range =
-      subst (StartsIn (lies_in (places_of object range))) (sym (yields_are (Some range)))
-      (starts_in (lies_in (places_of object range)) (all_yields (lines_of format p.columns p.plan job.request.output longest) longest (line_delimiter format) object))
 
   -- the ranges have the places of the tiles
   tiles_are : (first : ℕ) (cuts : List ℕ) → map in_places (ranges_from first cuts (length object)) ≡ of_ranges (tile_ranges first cuts)
@@ -131,15 +160,17 @@ module _ (longest : ℕ) (object : List ℕ) (job : Job) (format : LineFormat) (
   records_are [] = refl
   records_are (range ∷ ranges) = ap (λ l. yields_in longest object job (Some range) ++ l) (records_are ranges)
 
-  whole_is : EachTilingJoins → (cuts : List ℕ) → Ascend 0 cuts → joined (of_ranges (tile_ranges 0 cuts)) ≡ yields_in longest object job None
-  whole_is joins cuts up =
+  whole_is : EachTilingJoins → IsWithoutTotals (lines_of format p.columns p.plan job.request.output longest) → (cuts : List ℕ) → Ascend 0 cuts
+      → joined (of_ranges (tile_ranges 0 cuts)) ≡ yields_in longest object job None
+  whole_is joins alone cuts up =
       ap joined (sym (tiles_are 0 cuts))
-      ∙ joins (lines_of format p.columns p.plan job.request.output longest) longest (line_delimiter format) object cuts up ∙ sym (yields_are None)
+      ∙ joins (lines_of format p.columns p.plan job.request.output longest) longest (line_delimiter format) object cuts alone up ∙ sym (yields_are None)
 
 -- ---- and has no limit
 
 module _ (longest : ℕ) (object : List ℕ) (job : Job) (format : LineFormat) (p : Planned) (has_format : format_of job.request.input ≡ Some format)
-    (is_planned : planned_over longest object job.request.input job.query ≡ Ok p) (unlimited : p.plan.limit ≡ None) where
+    (is_planned : planned_over longest object job.request.input job.query ≡ Ok p) (selects : EachRangeSelects)
+    (alone : IsWithoutTotals (lines_of format p.columns p.plan job.request.output longest)) (unlimited : p.plan.limit ≡ None) where
   abbrev tile : ScanRange → List Yielded
   tile range = yields_in longest object job (Some range)
 
@@ -148,9 +179,13 @@ module _ (longest : ℕ) (object : List ℕ) (job : Job) (format : LineFormat) (
 
   answered_is : (range : Option ScanRange) → answered longest object (request_with job.request range) job.query ≡ Ok (processed None (yields_in longest object job range))
   answered_is range =
+      let lines = lines_of format p.columns p.plan job.request.output longest in
+      let places = resolved range (length object) in
       ap (λ f. answered_in f longest object (request_with job.request range) job.query) has_format
       ∙ ap (answered_by format longest object (request_with job.request range)) is_planned
-      ∙ ap (λ l. Ok (processed l (in_places longest object job format p has_format is_planned (resolved range (length object))))) unlimited
+      ∙ ap (λ t. Ok (answered_with p.plan.limit (in_places longest object job format p has_format is_planned places) t))
+        (none_behind lines longest alone (selected_cuts (line_delimiter format) object places))
+      ∙ ap (λ l. Ok (processed l (in_places longest object job format p has_format is_planned places))) unlimited
       ∙ ap (λ ys. Ok (processed None ys)) (sym (yields_are longest object job format p has_format is_planned range))
 
   payload_is : (range : Option ScanRange) → payload_of longest object (Asks (with_range job range)) ≡ carried_by job.request.progress (yields_in longest object job range)
@@ -266,7 +301,7 @@ module _ (longest : ℕ) (object : List ℕ) (job : Job) (format : LineFormat) (
           let f = first_tile (tile_ranges 0 cuts) (ap has_fault whole ∙ some) in
           let parts : all (tile_ranges 0 cuts) ≡ all f.front ++ tile f.range ∷ all f.back = ap all f.split ∙ all-split f.front f.range f.back in
           let shared = fails_too job.request.progress (all f.front) (tile f.range) (all f.back) f.fine f.fails_ in
-          let first = has_first (lies_in (places_of object f.range)) (tile f.range) (tile_starts longest object job format p has_format is_planned f.range) f.fails_ in
+          let first = has_first (lies_in (places_of object f.range)) (tile f.range) (tile_starts longest object job format p has_format is_planned selects alone f.range) f.fails_ in
           let in_whole : joined (all f.front ++ tile f.range ∷ all f.back) ≡ yields_in longest object job None = ap joined (sym parts) ∙ whole in
           let is : fault done ≡ Some (first.code, first.at) = ap (λ (ys : List Yielded). fault (processed None ys)) (sym in_whole) ∙ shared.fault ∙ first.is in
           subst (λ (g : Option (Code × ℕ)). JoinsTo longest object job cuts (ending_of done g)) (sym is) (inl (record {
@@ -296,54 +331,101 @@ no_records : (longest : ℕ) (object : List ℕ) (job : Job) → ((range : Optio
 no_records longest object job none [] = refl
 no_records longest object job none (range ∷ ranges) = ap (λ l. l ++ flat_map (λ r. yields_in longest object job (Some r)) ranges) (none (Some range)) ∙ no_records longest object job none ranges
 
-fails_alike : (longest : ℕ) (object : List ℕ) (job : Job) (cuts : List ℕ) (code : Code) → ((range : Option ScanRange) → yields_in longest object job range ≡ [])
+fails_alike : (longest : ℕ) (object : List ℕ) (job : Job) (cuts : List ℕ) (code : Code)
+    → flat_map (λ range. lines_in object job (Some range)) (tile_ranges 0 cuts) ≡ lines_in object job None
+    → ((range : Option ScanRange) → yields_in longest object job range ≡ [])
     → ((range : Option ScanRange) → answered longest object (request_with job.request range) job.query ≡ Err code) → MakesWhole longest object job cuts
-fails_alike longest object job cuts code none fails_ = record {
-  records = no_records longest object job none (tile_ranges 0 cuts) ∙ sym (none None);
-  joined = λ unlimited. subst (JoinsTo longest object job cuts) (sym (ap ended (fails_ None))) (inr (record {
+fails_alike longest object job cuts code lines none fails_ = record {
+  lines = lines;
+  records = λ rows. no_records longest object job none (tile_ranges 0 cuts) ∙ sym (none None);
+  joined = λ rows unlimited. subst (JoinsTo longest object job cuts) (sym (ap ended (fails_ None))) (inr (record {
     none = none None;
     alike = λ range. ap (events_of job.request.progress) (fails_ (Some range) ∙ sym (fails_ None));
   }));
 }
 
--- ---- the limit of a plan is its query's
+-- ---- the limit of a plan is its query's, and its aggregates are
 
-plan_limit : (columns : Columns) (q : Query) (plan : Plan) → planned columns q ≡ Ok plan → plan.limit ≡ q.limit
+-- a plan of a query
+record IsOf (q : Query) (plan : Plan) : Type 0 where
+  limit : plan.limit ≡ q.limit
+  totals : has_aggregates plan.items ≡ has_totals q.items
+
+bound_totals : (columns : Columns) (alias : Option Name) (used : List ℕ) (items : Selection)
+    → has_aggregates (bound_selection columns alias used items) ≡ has_totals items
+bound_totals columns alias used selection.All = refl
+bound_totals columns alias used (selection.Rows rows) = refl
+bound_totals columns alias used (selection.Totals totals) = refl
+
+plan_of : (columns : Columns) (q : Query) (plan : Plan) → planned columns q ≡ Ok plan → IsOf q plan
 unfolding planned
-plan_limit columns q plan is = by (bind_fault columns q) is
+plan_of columns q plan is = by (bind_fault columns q) is
   where
-    by : (f : Option BindFault) → planned_unless f (plan_with columns q (used_columns columns (query_finds columns q))) ≡ Ok plan → plan.limit ≡ q.limit
+    by : (f : Option BindFault) → planned_unless f (plan_with columns q (used_columns columns (query_finds columns q))) ≡ Ok plan → IsOf q plan
     by None h =
         let same : plan_with columns q (used_columns columns (query_finds columns q)) ≡ plan = cc in
-        ap (λ (p : Plan). p.limit) (sym same)
+        subst (IsOf q) same (record { limit = refl; totals = bound_totals columns q.alias (used_columns columns (query_finds columns q)) q.items })
     by (Some f) h = absurd cc
 
 module _ (q : Query) (p : Planned) where
-  in_plan : (columns : Columns) (r : Result Plan BindFault) → planned columns q ≡ r → bound_to columns r ≡ Ok p → p.plan.limit ≡ q.limit
+  in_plan : (columns : Columns) (r : Result Plan BindFault) → planned columns q ≡ r → bound_to columns r ≡ Ok p → IsOf q p.plan
   in_plan columns (Ok plan) is h =
       let same : record { columns = columns; plan = plan } ≡ p = cc in
-      ap (λ (r : Planned). r.plan.limit) (sym same) ∙ plan_limit columns q plan is
+      subst (λ (r : Planned). IsOf q r.plan) same (plan_of columns q plan is)
   in_plan columns (Err f) is h = absurd cc
 
-  in_columns : (c : Result Columns Code) → bound_in q c ≡ Ok p → p.plan.limit ≡ q.limit
+  in_columns : (c : Result Columns Code) → bound_in q c ≡ Ok p → IsOf q p.plan
   in_columns (Ok columns) h = in_plan columns (planned columns q) refl h
   in_columns (Err code) h = absurd cc
 
+-- ---- the lines
+
+module _ (object : List ℕ) (job : Job) where
+  lines_are : (format : LineFormat) → format_of job.request.input ≡ Some format → (range : Option ScanRange)
+      → lines_in object job range ≡ selected_cuts (line_delimiter format) object (resolved range (length object))
+  lines_are format has_format range = ap (λ f. lines_by f object (request_with job.request range)) has_format
+
+  tile_lines_are : (format : LineFormat) → format_of job.request.input ≡ Some format → (first : ℕ) (cuts : List ℕ)
+      → flat_map (λ range. lines_in object job (Some range)) (tile_ranges first cuts)
+      ≡ flat_map (selected_cuts (line_delimiter format) object) (ranges_from first cuts (length object))
+  unfolding resolved
+  tile_lines_are format has_format first [] = ap (λ l. l ++ []) (lines_are format has_format (Some (From first)))
+  tile_lines_are format has_format first (cut ∷ cuts) =
+      ap (λ l. l ++ flat_map (λ range. lines_in object job (Some range)) (tile_ranges cut cuts)) (lines_are format has_format (Some (Between first (cut - 1))))
+      ∙ ap (λ l. selected_cuts (line_delimiter format) object (cut_to first (cut - 1) (length object)) ++ l) (tile_lines_are format has_format cut cuts)
+
+  no_lines : format_of job.request.input ≡ None → (ranges : List ScanRange) → flat_map (λ range. lines_in object job (Some range)) ranges ≡ []
+  no_lines none [] = refl
+  no_lines none (range ∷ ranges) =
+      ap (λ f. lines_by f object (request_with job.request (Some range)) ++ flat_map (λ r. lines_in object job (Some r)) ranges) none ∙ no_lines none ranges
+
+  each_line : EachLineIsInOneTile → (cuts : List ℕ) → Ascend 0 cuts → (f : Option LineFormat) → format_of job.request.input ≡ f
+      → flat_map (λ range. lines_in object job (Some range)) (tile_ranges 0 cuts) ≡ lines_in object job None
+  each_line law cuts up (Some format) is =
+      tile_lines_are format is 0 cuts ∙ law (line_delimiter format) object cuts up ∙ sym (lines_are format is None)
+  each_line law cuts up None is = no_lines is (tile_ranges 0 cuts) ∙ sym (ap (λ f. lines_by f object (request_with job.request None)) is)
+
 -- ---- every query
 
-module _ (joins : EachTilingJoins) (join : EachTilesJoin) (fails_too : EachTilesFail) (longest : ℕ) (object : List ℕ) (job : Job) (cuts : List ℕ) (up : Ascend 0 cuts) where
+module _ (once : EachLineIsInOneTile) (selects : EachRangeSelects) (joins : EachTilingJoins) (lone : PlannedLinesAreAlone) (join : EachTilesJoin) (fails_too : EachTilesFail)
+    (longest : ℕ) (object : List ℕ) (job : Job) (cuts : List ℕ) (up : Ascend 0 cuts) where
+  in_tiles : flat_map (λ range. lines_in object job (Some range)) (tile_ranges 0 cuts) ≡ lines_in object job None
+  in_tiles = each_line object job once cuts up (format_of job.request.input) refl
+
   by_plan : (format : LineFormat) → format_of job.request.input ≡ Some format → (q : Result Planned Code)
       → planned_over longest object job.request.input job.query ≡ q → MakesWhole longest object job cuts
   by_plan format has_format (Ok p) is =
-      let whole = whole_is longest object job format p has_format is joins cuts up in
+      let of = in_columns job.query p (columns_of job.request.input longest object) is in
+      let alone = λ (rows : has_totals job.query.items ≡ false). lone format p.columns p.plan job.request.output longest (of.totals ∙ rows) in
+      let whole = λ (rows : has_totals job.query.items ≡ false). whole_is longest object job format p has_format is joins (alone rows) cuts up in
       record {
-        records = records_are longest object job format p has_format is (tile_ranges 0 cuts) ∙ whole;
-        joined = λ unlimited.
-            joins_whole longest object job format p has_format is
-            (in_columns job.query p (columns_of job.request.input longest object) is ∙ unlimited) join fails_too cuts whole;
+        lines = in_tiles;
+        records = λ rows. records_are longest object job format p has_format is (tile_ranges 0 cuts) ∙ whole rows;
+        joined = λ rows unlimited.
+            joins_whole longest object job format p has_format is selects (alone rows) (of.limit ∙ unlimited) join fails_too cuts (whole rows);
       }
   by_plan format has_format (Err code) is =
-      fails_alike longest object job cuts code
+      fails_alike longest object job cuts code in_tiles
       (λ range. ap (λ f. yields_by longest f (planned_over longest object job.request.input job.query) object (request_with job.request range)) has_format
       ∙ ap (λ q. yields_by longest (Some format) q object (request_with job.request range)) is)
       (λ range. ap (λ f. answered_in f longest object (request_with job.request range) job.query) has_format
@@ -352,9 +434,10 @@ module _ (joins : EachTilingJoins) (join : EachTilesJoin) (fails_too : EachTiles
   by_format : (f : Option LineFormat) → format_of job.request.input ≡ f → MakesWhole longest object job cuts
   by_format (Some format) has_format = by_plan format has_format (planned_over longest object job.request.input job.query) refl
   by_format None none =
-      fails_alike longest object job cuts NotBuilt
+      fails_alike longest object job cuts NotBuilt in_tiles
       (λ range. ap (λ f. yields_by longest f (planned_over longest object job.request.input job.query) object (request_with job.request range)) none)
       (λ range. ap (λ f. answered_in f longest object (request_with job.request range) job.query) none)
 
-pub each_tiling_makes_whole : EachTilingJoins → EachTilesJoin → EachTilesFail → EachTilingMakesWhole
-each_tiling_makes_whole joins join fails_too longest object job cuts up = by_format joins join fails_too longest object job cuts up (format_of job.request.input) refl
+pub each_tiling_makes_whole : EachLineIsInOneTile → EachRangeSelects → EachTilingJoins → PlannedLinesAreAlone → EachTilesJoin → EachTilesFail → EachTilingMakesWhole
+each_tiling_makes_whole once selects joins lone join fails_too longest object job cuts up =
+    by_format once selects joins lone join fails_too longest object job cuts up (format_of job.request.input) refl

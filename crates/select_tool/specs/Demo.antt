@@ -1,5 +1,5 @@
 -- The summary of one query over a sample object, and over the object's seven tiles.
-use Rattle.std.specs.Prelude.{◌≡◌, ℕ, suc, ◌*◌, ◌/◌, ◌&&◌, Bool, true, false, List, [], ◌∷◌, ◌++◌, length, map, codes, decimal, is_none, Option, if◌then◌else◌}
+use Rattle.std.specs.Prelude.{◌≡◌, ℕ, suc, ◌*◌, ◌/◌, ◌&&◌, Bool, true, false, List, [], ◌∷◌, ◌++◌, length, map, codes, decimal, not, is_none, Option, if◌then◌else◌}
 use Rattle.std.specs.Io.KnownBytes.{Appends}
 use Rattle.select_ports.specs.Streams.{AppendsFront}
 use Rattle.select_request.specs.declared.request.ScanRange.{ScanRange}
@@ -16,7 +16,7 @@ use Rattle.select_tool.specs.Statuses.{line}
 use Rattle.select_tool.specs.Words.{longest_record}
 use Rattle.select_tool.specs.Replies.{reply_outcome}
 use Rattle.select_tool.specs.Tiles.{tile_of, tile_ranges}
-use Rattle.select_tool.specs.Whole.{payload_of, payloads_of}
+use Rattle.select_tool.specs.Whole.{has_totals, payload_of, payloads_of}
 
 -- the body of the query
 unfoldable pub demo_body : List ℕ
@@ -52,7 +52,7 @@ is_done (Done c) = true
 is_done (Faulted code at) = false
 
 abbrev pub is_joined : Job → Outcome → Bool
-is_joined job ended = is_none job.request.range && is_none job.query.limit && is_done ended
+is_joined job ended = is_none job.request.range && is_none job.query.limit && not (has_totals job.query.items) && is_done ended
 
 unfoldable pub last_line : Bool → List ℕ
 last_line joined = if joined then line (codes "joined yes") else []

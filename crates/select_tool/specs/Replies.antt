@@ -14,6 +14,7 @@ use Rattle.select_tool.specs.Words.{Order, longest_record, selects, tiles, lists
 use Rattle.select_job.specs.Prepared.{Prepares}
 use Rattle.select_reply.specs.Events.{wrapped_frames}
 use Rattle.scan_ranges.specs.Resolved.{resolved}
+use Rattle.select_engine.specs.Due.{processed_over}
 use Rattle.select_engine.specs.Answered.{answered, ended, events}
 use Rattle.record_stream.specs.Selected.{first_of}
 use Rattle.select_engine.specs.Jobs.{IsEarly, most_taken}
@@ -47,7 +48,7 @@ abbrev pub IsNotHeldBack : (List ℕ → List ℕ) → ℕ → List ℕ → ℕ 
 IsNotHeldBack wrap longest object taken (Refused code at) before now = Unit {0}
 IsNotHeldBack wrap longest object taken (Asks job) before now =
     IsEarly wrap job.request.progress longest (first_of (resolved job.request.range (length object)) + taken)
-    (answered longest object job.request job.query) before now
+    (processed_over longest object job.request job.query) before now
 
 -- that of what the body asks
 abbrev pub NotHeldBack : ℕ → List ℕ → List ℕ → ℕ → Option (List ℕ) → Option (List ℕ) → Type 0

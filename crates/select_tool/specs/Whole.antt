@@ -3,7 +3,10 @@ use Rattle.std.specs.Prelude.{◌≡◌, ◌⊎◌, ℕ, Bool, true, false, List
 use Rattle.std.specs.List.{flat_map}
 use Rattle.std.specs.Io.KnownBytes.{Appends}
 use Rattle.event_frame.specs.declared.counts.Counts.{Counts}
+use Rattle.line_window.specs.Cuts.{Cut}
 use Rattle.scan_ranges.specs.Resolved.{resolved}
+use Rattle.sql_grammar.specs.declared.tree.Selection.{Selection}
+use Rattle.sql_grammar.specs.declared.tree.Selection.TheVariants as selection
 use Rattle.select_request.specs.Values.{allows_range}
 use Rattle.select_request.specs.declared.request.SelectRequest.{SelectRequest}
 use Rattle.select_request.specs.declared.request.ScanRange.{ScanRange}
@@ -17,11 +20,11 @@ use Rattle.select_job.specs.declared.asked.Asked.TheVariants.{Refused, Asks}
 use Rattle.object_plan.specs.Planning.{planned_over}
 use Rattle.select_engine.specs.Answered.{yields_over, events}
 use Rattle.select_job.specs.Prepared.{Prepares}
-use Rattle.record_stream.specs.Selected.{lies_in}
+use Rattle.record_stream.specs.Selected.{lies_in, selected_cuts}
 use Rattle.select_job.specs.Jobs.{request_with, with_range}
 use Rattle.select_job.specs.Jobs.{Job}
 use Rattle.planned_lines.specs.declared.planned.Planned.{Planned}
-use Rattle.record_rows.specs.Formats.{format_of}
+use Rattle.record_rows.specs.Formats.{format_of, line_delimiter}
 use Rattle.record_rows.specs.declared.format.LineFormat.{LineFormat}
 use Rattle.record_stream.specs.Tiling.{Ascend}
 use Rattle.select_tool.specs.Replies.{reply_outcome}
@@ -44,6 +47,20 @@ yields_by longest format plan object request = []
 abbrev pub yields_in : ℕ → List ℕ → Job → Option ScanRange → List Yielded
 yields_in longest object job range =
     yields_by longest (format_of job.request.input) (planned_over longest object job.request.input job.query) object (request_with job.request range)
+
+-- the lines of the object that start in the range
+abbrev pub lines_by : Option LineFormat → List ℕ → SelectRequest → List Cut
+lines_by None object request = []
+lines_by (Some format) object request = selected_cuts (line_delimiter format) object (resolved request.range (length object))
+
+abbrev pub lines_in : List ℕ → Job → Option ScanRange → List Cut
+lines_in object job range = lines_by (format_of job.request.input) object (request_with job.request range)
+
+-- the query selects aggregates
+abbrev pub has_totals : Selection → Bool
+has_totals selection.All = false
+has_totals (selection.Rows items) = false
+has_totals (selection.Totals totals) = true
 
 -- the output that the reply carries, and that the replies carry, joined
 abbrev pub payload_of : ℕ → List ℕ → Asked → List ℕ
@@ -91,10 +108,13 @@ abbrev pub JoinsTo : ℕ → List ℕ → Job → List ℕ → Outcome → Type 
 JoinsTo longest object job cuts (Done c) = JoinsToDone longest object job cuts c
 JoinsTo longest object job cuts (Faulted code at) = JoinsToError longest object job cuts code at ⊎ FailsAlike longest object job
 
--- The tiles have each record of the whole once. Where the query has no LIMIT, their replies make the reply to the whole.
+-- The tiles have each line of the whole once. Where the query has no aggregates, what the records of the tiles yield, joined, is what those
+-- of the whole do; and where it has no LIMIT either, the replies to the tiles make the reply to the whole.
 pub record MakesWhole (longest : ℕ) (object : List ℕ) (job : Job) (cuts : List ℕ) : Type 0 where
-  pub records : flat_map (λ range. yields_in longest object job (Some range)) (tile_ranges 0 cuts) ≡ yields_in longest object job None
-  pub joined : job.query.limit ≡ None → JoinsTo longest object job cuts (reply_outcome longest object (whole_of job))
+  pub lines : flat_map (λ range. lines_in object job (Some range)) (tile_ranges 0 cuts) ≡ lines_in object job None
+  pub records : has_totals job.query.items ≡ false
+      → flat_map (λ range. yields_in longest object job (Some range)) (tile_ranges 0 cuts) ≡ yields_in longest object job None
+  pub joined : has_totals job.query.items ≡ false → job.query.limit ≡ None → JoinsTo longest object job cuts (reply_outcome longest object (whole_of job))
 
 -- and they do, for every tiling of every object
 abbrev pub EachTilingMakesWhole : Type 0

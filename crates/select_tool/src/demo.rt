@@ -10,6 +10,7 @@ ghost use Rattle.select_job.specs.declared.asked.Asked.TheVariants.{Asks};
 ghost use Rattle.select_tool.specs.Replies.{CauseOf, reply_outcome};
 ghost use Rattle.select_tool.specs.Words.{longest_record};
 ghost use Rattle.select_tool.specs.Tiles.{tile_ranges};
+ghost use Rattle.select_tool.specs.Whole.{has_totals};
 ghost use Rattle.select_tool.specs.Demo.{Demonstrates, DemonstratesInPart, Summarizes, summary, query_summary, demo_body, seventh, sevenths};
 ghost use Rattle.select_tool.specs.Demo.{tally, tile_line, tile_lines, tile_outcome, first_lines, last_line, is_done, is_joined};
 
@@ -25,6 +26,7 @@ use sample_objects::{SampleKind, sample_object};
 use select_engine::{Asked, Job, Outcome, prepare};
 use select_ports::{Failed, Limits, Sink, Store, write_all};
 use select_request::ScanRange;
+use select_sql::Selection;
 use std::alloc::{AllocError, Global};
 
 /// Room for a line or two of the summary.
@@ -269,7 +271,20 @@ fn tally(ended: &Outcome) -> ArrayString<128>
 fn is_joined(job: &Job, ended: &Outcome) -> bool
     ensures { result ≡ is_joined job.now ended.now }
 {
-    job.request().range.is_none() && job.query().limit.is_none() && is_done(ended)
+    job.request().range.is_none()
+        && job.query().limit.is_none()
+        && !has_totals(&job.query().items)
+        && is_done(ended)
+}
+
+fn has_totals(items: &Selection) -> bool
+    ensures { result ≡ has_totals items.now }
+{
+    match items {
+        Selection::All => false,
+        Selection::Rows(_) => false,
+        Selection::Totals(_) => true,
+    }
 }
 
 fn is_done(ended: &Outcome) -> bool

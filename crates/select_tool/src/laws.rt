@@ -6,7 +6,7 @@ ghost use Rattle.select_tool.specs.Listings.{IsListed, IsOneAnswer};
 ghost use Rattle.select_tool.specs.Whole.{EachTilingMakesWhole};
 
 use event_frame::{counts_have_one_reading, stream_has_one_reading};
-use select_engine::tiles_have_each_record_once;
+use select_engine::{planned_lines_are_alone, tiles_have_each_record_once};
 
 /// An input of replies ends in one way, and one list of bytes is listed of it.
 pub fn replies_have_one_listing()
@@ -18,10 +18,11 @@ pub fn replies_have_one_listing()
     counts_have_one_reading();
 }
 
-/// The tiles of an object have each record of the whole once, and the replies to them make the reply to the whole.
+/// The tiles of an object have each line of the whole once, and the replies to them, without aggregates, make the reply to the whole.
 pub fn replies_make_the_whole()
     ensures { EachTilingMakesWhole }
 {
     tiles_have_each_record_once();
+    planned_lines_are_alone();
     select_reply::tiles_make_the_whole();
 }
