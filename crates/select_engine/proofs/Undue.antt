@@ -20,7 +20,8 @@ use Rattle.planned_lines.specs.declared.planned.Planned.{Planned}
 use Rattle.planned_lines.specs.LineYields.{lines_of}
 use Rattle.object_plan.specs.Columns.{header_read, uses_header}
 use Rattle.object_plan.specs.Planning.{planned_over}
-use Rattle.select_engine.specs.Answered.{answered, answered_by, answered_in, yields_over}
+use Rattle.select_engine.specs.Answered.{yields_over}
+use Rattle.select_engine.specs.Due.{limit_of, processed_by, processed_in, processed_over}
 use Rattle.select_engine.specs.Jobs.{IsEarly, most_of_range}
 use Rattle.select_engine.specs.Early.{UnreadIsNotDue}
 
@@ -38,13 +39,13 @@ none_due wrap progress longest upto done before now nothing kept = record {
 
 module _ (late : UnreadAreLate) (wrap : List ℕ → List ℕ) (progress : Bool) (longest : ℕ) (object : List ℕ) (request : SelectRequest) (upto : ℕ)
     (before now : Option (List ℕ)) (near : upto ≤ first_of (resolved request.range (length object)) + (longest + 65538)) (kept : Keeps before now) where
-  by_plan : (format : LineFormat) (q : Result Planned Code) → IsEarly wrap progress longest upto (answered_by format longest object request q) before now
+  by_plan : (format : LineFormat) (q : Result Planned Code) → IsEarly wrap progress longest upto (processed_by format longest object request q) before now
   by_plan format (Ok p) =
       none_due wrap progress longest upto _ before now
-      (late (lines_of format p.columns p.plan request.output longest) longest (line_delimiter format) object (resolved request.range (length object)) p.plan.limit upto near) kept
+      (late (lines_of format p.columns p.plan request.output longest) longest (line_delimiter format) object (resolved request.range (length object)) (limit_of p.plan) upto near) kept
   by_plan format (Err code) = tt
 
-  by_format : (query : Query) (f : Option LineFormat) → IsEarly wrap progress longest upto (answered_in f longest object request query) before now
+  by_format : (query : Query) (f : Option LineFormat) → IsEarly wrap progress longest upto (processed_in f longest object request query) before now
   by_format query (Some format) = by_plan format (planned_over longest object request.input query)
   by_format query None = tt
 
@@ -69,9 +70,9 @@ pub taken_in_all : (longest before mid now first size : ℕ) (range : Option (�
 taken_in_all longest before mid now first size None header once near all = omega arith
 taken_in_all longest before mid now first size (Some range) header once near all = omega arith
 
--- the records of a plan are answered
-pub answered_is : (longest : ℕ) (object : List ℕ) (request : SelectRequest) (query : Query) (format : LineFormat) (p : Planned)
+-- the records of a plan are processed
+pub processed_is : (longest : ℕ) (object : List ℕ) (request : SelectRequest) (query : Query) (format : LineFormat) (p : Planned)
     → format_of request.input ≡ Some format → planned_over longest object request.input query ≡ Ok p
-    → answered longest object request query ≡ Ok (processed p.plan.limit (yields_over format p longest object request))
-answered_is longest object request query format p has_format is_planned =
-    ap (λ f. answered_in f longest object request query) has_format ∙ ap (answered_by format longest object request) is_planned
+    → processed_over longest object request query ≡ Ok (processed (limit_of p.plan) (yields_over format p longest object request))
+processed_is longest object request query format p has_format is_planned =
+    ap (λ f. processed_in f longest object request query) has_format ∙ ap (processed_by format longest object request) is_planned

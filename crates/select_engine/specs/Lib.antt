@@ -1,3 +1,4 @@
 pub mod Answered
+pub mod Due
 pub mod Early
 pub mod Jobs

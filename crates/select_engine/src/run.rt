@@ -9,20 +9,24 @@ ghost use Rattle.record_rows.specs.Formats.{is_readable, line_delimiter};
 ghost use Rattle.record_stream.specs.Replied.{Answers, WritesReply, WroteEarly};
 ghost use Rattle.record_stream.specs.Selected.{first_of, most_read};
 ghost use Rattle.select_engine.specs.Answered.{answered, ended, events_of, yields_over};
+ghost use Rattle.select_engine.specs.Due.{limit_of, records_over, processed_over};
 ghost use Rattle.select_engine.specs.Jobs.{HasEngineCause, IsEarly, most_taken};
 
 use crate::laws::unread_output_is_not_due;
+use crate::limit::limit_of;
 use crate::outcome::EngineError;
 use csv_cutter::Spans;
 use line_window::Window;
 use object_plan::{Stop, plan_over};
-use planned_lines::{Planned, PlannedLines, planned_outputs_are_short};
+use planned_lines::{
+    Planned, PlannedLines, planned_lines_end_with_totals, planned_outputs_are_short,
+};
 use record_output::Out;
 use record_rows::LineFormat;
 use record_stream::{StreamError, answer_range};
 use select_job::Job;
 use select_ports::{Failed, FrameSink, Limits, Store};
-use select_reply::{Code, Outcome, ReplyWriter};
+use select_reply::{Code, Outcome, ReplyWriter, totals_are_one_more_record};
 use select_request::SelectRequest;
 use std::alloc::Global;
 
@@ -47,7 +51,7 @@ pub fn run_job<S: Store, K: FrameSink>(
     ensures early { (object : List ℕ) → Tells (S.current store.old) object → result ≡ Err EngineError.StoreFault
         → IsEarly K.wrap job.now.request.progress limits.longest
         (first_of (resolved job.now.request.range (length object)) + (S.taken store.new - S.taken store.old))
-        (answered limits.longest object job.now.request job.now.query) (K.written out.old) (K.written out.new) }
+        (processed_over limits.longest object job.now.request job.now.query) (K.written out.old) (K.written out.new) }
     ensures cause { IfErr result (HasEngineCause (S.faults store.old) (S.faults store.new)
         (K.faults out.old) (K.faults out.new) (K.written out.old) (K.written out.new)) }
     // Little more than the range is read, and no byte twice but for a used header.
@@ -70,6 +74,8 @@ pub fn run_job<S: Store, K: FrameSink>(
         return Err(EngineError::OutOfMemory);
     };
     unread_output_is_not_due();
+    planned_lines_end_with_totals();
+    totals_are_one_more_record();
     match plan_over(alloc, job, &mut window, &mut spans, store, size) {
         Ok(planned) => answer_planned(
             alloc,
@@ -109,13 +115,13 @@ fn answer_planned<S: Store, K: FrameSink>(
     requires readable { is_readable format ≡ true }
     ensures reply { (object : List ℕ) → Tells (S.current store.old) object
         → Answers K.wrap request.now.progress
-        (processed planned.now.plan.limit (yields_over format planned.now limits.longest object request.now))
+        (processed (limit_of planned.now.plan) (records_over format planned.now limits.longest object request.now))
         (K.written out.old) (K.written out.new) result }
     ensures early { (object : List ℕ) (upto : ℕ) → Tells (S.current store.old) object
         → upto ≤ first_of (resolved request.now.range (length object)) + (limits.longest + 65538 + (S.taken store.new - S.taken store.old))
         → result ≡ Err EngineError.StoreFault
         → WroteEarly K.wrap request.now.progress limits.longest upto
-        (processed planned.now.plan.limit (yields_over format planned.now limits.longest object request.now))
+        (processed (limit_of planned.now.plan) (yields_over format planned.now limits.longest object request.now))
         (K.written out.old) (K.written out.new) }
     ensures cause { IfErr result (HasEngineCause (S.faults store.old) (S.faults store.new)
         (K.faults out.old) (K.faults out.new) (K.written out.old) (K.written out.new)) }
@@ -132,10 +138,12 @@ fn answer_planned<S: Store, K: FrameSink>(
     let Ok(writer) = Out::make(alloc, &request.output, limits) else {
         return Err(EngineError::OutOfMemory);
     };
-    let Ok(mut reply) = ReplyWriter::make(alloc, request.progress, planned.plan.limit) else {
+    let Ok(mut reply) = ReplyWriter::make(alloc, request.progress, limit_of(&planned.plan)) else {
         return Err(EngineError::OutOfMemory);
     };
-    let mut lines = PlannedLines::of(format, planned, spans, writer);
+    let Ok(mut lines) = PlannedLines::of(alloc, format, planned, spans, writer) else {
+        return Err(EngineError::OutOfMemory);
+    };
     match answer_range(
         window,
         &mut reply,
