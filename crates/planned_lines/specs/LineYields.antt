@@ -1,5 +1,7 @@
 -- What the lines of an object yield to a plan, one after the other.
 use Rattle.std.specs.Prelude.{◌≡◌, ℕ, ◌≤◌, Bool, true, false, List, [], ◌∷◌, map, Option, None, Some, Result, Ok, Err, if◌then◌else◌}
+use Rattle.std.specs.List.{flat_map}
+use Rattle.line_window.specs.Cuts.{Cut, content}
 use Rattle.select_request.specs.declared.request.Output.{Output}
 use Rattle.sql_bound.specs.declared.tree.Bound.{Bound}
 use Rattle.sql_bound.specs.declared.tree.BoundAgg.{BoundAgg}
@@ -17,7 +19,7 @@ use Rattle.record_rows.specs.Formats.{is_header, content_row}
 use Rattle.record_rows.specs.declared.format.LineFormat.{LineFormat}
 use Rattle.record_yields.specs.Yields.{row_yield}
 use Rattle.record_yields.specs.Totals.{row_added, yield_of_added, totals_yield}
-use Rattle.record_stream.specs.Lines.{Seen, Lines, IsShort, IsWithoutTotals}
+use Rattle.record_stream.specs.Lines.{Seen, Lines, is_too_long, end_of, IsShort, IsWithoutTotals}
 
 -- the plan is of aggregates
 abbrev pub has_aggregates : PlanItems → Bool
@@ -48,18 +50,34 @@ abbrev pub unless_code : List Partial → Result (List Partial) Code → List Pa
 unless_code ts (Ok us) = us
 unless_code ts (Err code) = ts
 
-abbrev pub totals_behind_row : Plan → List Partial → RowOf → List Partial
-totals_behind_row plan ts passed = ts
-totals_behind_row plan ts (row cells) = unless_code ts (totals_with plan.items plan.filter cells ts)
-totals_behind_row plan ts (faulty code) = ts
+-- the totals with these rows, one after the other
+abbrev pub totals_with_all : PlanItems → Option Bound → List (List Value) → List Partial → List Partial
+totals_with_all selected filter [] ts = ts
+totals_with_all selected filter (cells ∷ rows) ts = totals_with_all selected filter rows (unless_code ts (totals_with selected filter cells ts))
 
--- the totals with the row of a line that was read, if it is a record, and with those of many, one after the other
+-- the row of a record
+abbrev pub row_in : RowOf → List (List Value)
+row_in passed = []
+row_in (row cells) = cells ∷ []
+row_in (faulty code) = []
+
+abbrev pub totals_behind_row : Plan → List Partial → RowOf → List Partial
+totals_behind_row plan ts r = totals_with_all plan.items plan.filter (row_in r) ts
+
+-- the totals with the row of a line that was read, if it is a record, and with those of many
 unfoldable pub totals_behind : LineFormat → Plan → List Partial → Seen → List Partial
 totals_behind format plan ts line = totals_behind_row plan ts (content_row format line.place line.bytes)
 
 abbrev pub totals_of : LineFormat → Plan → List Partial → List Seen → List Partial
 totals_of format plan ts [] = ts
 totals_of format plan ts (line ∷ lines) = totals_of format plan (totals_behind format plan ts line) lines
+
+-- the rows of these cuts, under a record limit; a line that is too long has none
+abbrev pub cut_rows : LineFormat → ℕ → Cut → List (List Value)
+cut_rows format longest cut = if is_too_long longest cut then [] else row_in (content_row format cut.start (content cut))
+
+abbrev pub rows_of : LineFormat → ℕ → List Cut → List (List Value)
+rows_of format longest cuts = flat_map (cut_rows format longest) cuts
 
 -- ---- lines
 
@@ -107,6 +125,13 @@ abbrev pub PlannedOutputsAreShort : Type 0
 PlannedOutputsAreShort =
     (format : LineFormat) (columns : Columns) (plan : Plan) (output : Output) (longest : ℕ) → longest ≤ 16777216
     → IsShort (lines_of format columns plan output longest)
+
+-- behind cuts stands the record of the totals with their rows
+abbrev pub PlannedLinesEndWithTotals : Type 0
+PlannedLinesEndWithTotals =
+    (format : LineFormat) (columns : Columns) (plan : Plan) (output : Output) (longest : ℕ) (cuts : List Cut)
+    → end_of (lines_of format columns plan output longest) longest cuts
+    ≡ totals_record plan.items plan.names output longest (totals_with_all plan.items plan.filter (rows_of format longest cuts) (no_totals plan.items))
 
 -- without aggregates a line yields what it would alone
 abbrev pub PlannedLinesAreAlone : Type 0

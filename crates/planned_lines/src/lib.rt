@@ -7,6 +7,9 @@ mod lines;
 mod planned;
 mod totals;
 
-pub use crate::laws::{planned_lines_are_alone, planned_outputs_are_short};
+pub use crate::laws::{
+    planned_lines_are_alone, planned_lines_end_with_totals, planned_outputs_are_short,
+    totals_are_of_kept_rows,
+};
 pub use crate::lines::PlannedLines;
 pub use crate::planned::Planned;

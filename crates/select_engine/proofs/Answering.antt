@@ -1,5 +1,5 @@
 -- The records of an answer with aggregates are those that are processed where the record of totals is one more of them.
-use Rattle.std.proofs.Common.{◌≡◌, ℕ, zero, suc, Bool, true, false, List, length, [], ◌∷◌, ◌++◌, Option, None, Some, Ok, refl, sym, ap, ◌∙◌}
+use Rattle.std.proofs.Common.{◌≡◌, ℕ, zero, suc, Bool, true, false, List, [], ◌∷◌, ◌++◌, length, Option, None, Some, Ok, refl, sym, ap, ◌∙◌}
 use Rattle.std.specs.Prelude.{if◌then◌else◌}
 use Rattle.select_request.specs.declared.request.Output.{Output}
 use Rattle.scan_plan.specs.declared.plans.PlanItems.{PlanItems}
@@ -8,20 +8,19 @@ use Rattle.select_reply.specs.Yields.{Yield, silent, writes, fails, Yielded, has
 use Rattle.select_reply.specs.Turns.{yielded}
 use Rattle.select_reply.specs.Answers.{shortest_front, processed, totals_record, unless_faulty, processed_with_totals, TotalsAreOneMore}
 use Rattle.sql_totals.specs.Partials.{Partial}
-use Rattle.line_window.specs.Cuts.{Cut, content}
-use Rattle.scan_ranges.specs.Resolved.{resolved}
-use Rattle.scan_plan.specs.declared.columns.Columns.{Columns}
-use Rattle.scan_plan.specs.declared.plans.Plan.{Plan}
-use Rattle.record_stream.specs.Lines.{Lines, behind, is_too_long, behind_cut, behind_all, end_of, ended_by}
+use Rattle.record_stream.specs.Lines.{ended_by}
 use Rattle.record_stream.specs.Selected.{selected_cuts}
-use Rattle.planned_lines.specs.LineYields.{has_aggregates, no_totals, totals_behind, lines_behind, totals_record as record_of_totals}
+use Rattle.planned_lines.specs.LineYields.{has_aggregates, no_totals, totals_with_all, rows_of, totals_record as record_of_totals, PlannedLinesEndWithTotals}
 use Rattle.record_rows.specs.Formats.{format_of, line_delimiter}
+use Rattle.scan_ranges.specs.Resolved.{resolved}
+use Rattle.select_ports.specs.Streams.{AppendsFront}
+use Rattle.std.proofs.KnownBytes.{Appends-nil}
 use Rattle.record_rows.specs.declared.format.LineFormat.{LineFormat}
 use Rattle.planned_lines.specs.declared.planned.Planned.{Planned}
 use Rattle.object_plan.specs.Planning.{planned_over}
 use Rattle.select_request.specs.declared.request.SelectRequest.{SelectRequest}
 use Rattle.sql_grammar.specs.declared.tree.Query.{Query}
-use Rattle.select_engine.specs.Answered.{answered_with, answered_by, answered_in, answered, yields_over, totals_over}
+use Rattle.select_engine.specs.Answered.{answered_with, answered_by, answered_in, answered, totals_over, yields_over}
 use Rattle.select_engine.specs.Due.{limit_unless_totals, limit_of, records_over}
 
 stopped : (test : List Yielded → Bool) (ys : List Yielded) → test [] ≡ true → shortest_front test ys ≡ []
@@ -69,46 +68,24 @@ answered_is law items.All limit names output longest ts ys = refl
 answered_is law (items.Rows bounds) limit names output longest ts ys = refl
 answered_is law (items.Totals aggs) limit names output longest ts ys = by_limit law ys _ limit
 
--- the record behind the last line is that of some totals
-record EndsWith (format : LineFormat) (columns : Columns) (plan : Plan) (output : Output) (longest : ℕ) (e : Option Yield) : Type 0 where
-  totals : List Partial
-  is : e ≡ record_of_totals plan.items plan.names output longest totals
+-- a front of nothing was written
+pub nothing_written : (now : Option (List ℕ)) (bytes : List ℕ) → AppendsFront now now bytes
+nothing_written now bytes = record { front = []; is_front = record { rest = bytes; joined = refl }; appended = Appends-nil now }
 
-module _ (format : LineFormat) (columns : Columns) (plan : Plan) (output : Output) (longest : ℕ) where
-  cut_lines : (ts : List Partial) (cut : Cut) → behind_cut (lines_behind format columns plan output longest ts) longest cut
-      ≡ lines_behind format columns plan output longest
-      (if is_too_long longest cut then ts else totals_behind format plan ts (record { place = cut.start; bytes = content cut }))
-  unfolding behind_cut
-  cut_lines ts cut =
-      let here = lines_behind format columns plan output longest in
-      let P : Bool → Type 0 = λ b. (if b then here ts else behind (here ts) cut.start (content cut))
-      ≡ here (if b then ts else totals_behind format plan ts (record { place = cut.start; bytes = content cut })) in
-      elim (is_too_long longest cut) as P [ true ↦ refl | false ↦ refl ]
+module _ (law : TotalsAreOneMore) (ends : PlannedLinesEndWithTotals) (longest : ℕ) (object : List ℕ) (request : SelectRequest) (format : LineFormat) (p : Planned) where
+  streamed_is : processed (limit_of p.plan) (records_over format p longest object request)
+      ≡ answered_with p.plan.limit (yields_over format p longest object request) (totals_over format p longest object request)
+  streamed_is =
+      let cuts = selected_cuts (line_delimiter format) object (resolved request.range (length object)) in
+      let ys = yields_over format p longest object request in
+      ap (λ e. processed (limit_of p.plan) (ended_by ys e)) (ends format p.columns p.plan request.output longest cuts)
+      ∙ answered_is law p.plan.items p.plan.limit p.plan.names request.output longest
+      (totals_with_all p.plan.items p.plan.filter (rows_of format longest cuts) (no_totals p.plan.items)) ys
 
-  ends_with : (ts : List Partial) (cuts : List Cut)
-      → EndsWith format columns plan output longest (end_of (lines_behind format columns plan output longest ts) longest cuts)
-  ends_with ts [] = record { totals = ts; is = refl }
-  ends_with ts (cut ∷ cuts) =
-      let next = if is_too_long longest cut then ts else totals_behind format plan ts (record { place = cut.start; bytes = content cut }) in
-      let rest = ends_with next cuts in
-      record { totals = rest.totals; is = ap (λ (l : Lines). (behind_all l longest cuts).of_end []) (cut_lines ts cut) ∙ rest.is }
-
--- the records of a plan are those of the answer
-plan_answered : TotalsAreOneMore → (longest : ℕ) (object : List ℕ) (request : SelectRequest) (format : LineFormat) (p : Planned) (e : Option Yield)
-    → EndsWith format p.columns p.plan request.output longest e
-    → answered_with p.plan.limit (yields_over format p longest object request) e
-    ≡ processed (limit_of p.plan) (ended_by (yields_over format p longest object request) e)
-plan_answered law longest object request format p e ends =
-    ap (answered_with p.plan.limit (yields_over format p longest object request)) ends.is
-    ∙ sym (answered_is law p.plan.items p.plan.limit p.plan.names request.output longest ends.totals (yields_over format p longest object request))
-    ∙ ap (λ (t : Option Yield). processed (limit_of p.plan) (ended_by (yields_over format p longest object request) t)) (sym ends.is)
-
-pub answered_by_plan : TotalsAreOneMore → (longest : ℕ) (object : List ℕ) (request : SelectRequest) (query : Query) (format : LineFormat) (p : Planned)
-    → format_of request.input ≡ Some format → planned_over longest object request.input query ≡ Ok p
-    → answered longest object request query ≡ Ok (processed (limit_of p.plan) (records_over format p longest object request))
-answered_by_plan law longest object request query format p has_format is_planned =
-    ap (λ f. answered_in f longest object request query) has_format ∙ ap (answered_by format longest object request) is_planned
-    ∙ ap (λ (l : List Yielded). Ok l)
-    (plan_answered law longest object request format p (totals_over format p longest object request)
-    (ends_with format p.columns p.plan request.output longest (no_totals p.plan.items)
-    (selected_cuts (line_delimiter format) object (resolved request.range (length object)))))
+  pub answered_by_plan : (query : Query) → format_of request.input ≡ Some format → planned_over longest object request.input query ≡ Ok p
+      → answered longest object request query ≡ Ok (processed (limit_of p.plan) (records_over format p longest object request))
+  answered_by_plan query has_format is_planned =
+      let as_planned : answered longest object request query
+      ≡ Ok (answered_with p.plan.limit (yields_over format p longest object request) (totals_over format p longest object request)) =
+      ap (λ f. answered_in f longest object request query) has_format ∙ ap (answered_by format longest object request) is_planned in
+      as_planned ∙ ap Ok (sym streamed_is)

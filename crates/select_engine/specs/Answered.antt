@@ -14,8 +14,8 @@ use Rattle.select_reply.specs.Events.{error_event, answer_events}
 use Rattle.select_reply.specs.Replies.{outcome_of}
 use Rattle.record_rows.specs.Formats.{format_of, line_delimiter}
 use Rattle.record_rows.specs.declared.format.LineFormat.{LineFormat}
-use Rattle.record_stream.specs.Selected.{yields, end_yield}
-use Rattle.planned_lines.specs.LineYields.{lines_of}
+use Rattle.record_stream.specs.Selected.{selected_cuts, yields}
+use Rattle.planned_lines.specs.LineYields.{no_totals, totals_with_all, rows_of, totals_record, lines_of}
 use Rattle.planned_lines.specs.declared.planned.Planned.{Planned}
 use Rattle.object_plan.specs.Planning.{planned_over}
 use Rattle.select_job.specs.declared.asked.Asked.{Asked}
@@ -28,10 +28,13 @@ abbrev pub yields_over : LineFormat → Planned → ℕ → List ℕ → SelectR
 yields_over format p longest object request =
     yields (lines_of format p.columns p.plan request.output longest) longest (line_delimiter format) object (resolved request.range (length object))
 
--- what the record of totals behind them yields, with aggregates
+-- with aggregates, what the record of the totals yields that have the rows of these records, one after the other
 abbrev pub totals_over : LineFormat → Planned → ℕ → List ℕ → SelectRequest → Option Yield
 totals_over format p longest object request =
-    end_yield (lines_of format p.columns p.plan request.output longest) longest (line_delimiter format) object (resolved request.range (length object))
+    totals_record p.plan.items p.plan.names request.output longest
+    (totals_with_all p.plan.items p.plan.filter
+    (rows_of format longest (selected_cuts (line_delimiter format) object (resolved request.range (length object))))
+    (no_totals p.plan.items))
 
 -- records are processed up to the limit or the first code; with aggregates up to a code, and else the record of totals follows them
 abbrev pub answered_with : Option ℕ → List Yielded → Option Yield → List Yielded

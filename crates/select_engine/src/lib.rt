@@ -8,7 +8,7 @@ mod run;
 
 pub use laws::unread_output_is_not_due;
 pub use outcome::EngineError;
-pub use planned_lines::planned_lines_are_alone;
+pub use planned_lines::{planned_lines_are_alone, totals_are_of_kept_rows};
 pub use record_stream::tiles_have_each_record_once;
 pub use run::{refuse, run_job};
 pub use select_job::{Asked, Job, body_asks_one_thing, prepare};

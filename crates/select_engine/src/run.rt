@@ -18,7 +18,9 @@ use crate::outcome::EngineError;
 use csv_cutter::Spans;
 use line_window::Window;
 use object_plan::{Stop, plan_over};
-use planned_lines::{Planned, PlannedLines, planned_outputs_are_short};
+use planned_lines::{
+    Planned, PlannedLines, planned_lines_end_with_totals, planned_outputs_are_short,
+};
 use record_output::Out;
 use record_rows::LineFormat;
 use record_stream::{StreamError, answer_range};
@@ -72,6 +74,7 @@ pub fn run_job<S: Store, K: FrameSink>(
         return Err(EngineError::OutOfMemory);
     };
     unread_output_is_not_due();
+    planned_lines_end_with_totals();
     totals_are_one_more_record();
     match plan_over(alloc, job, &mut window, &mut spans, store, size) {
         Ok(planned) => answer_planned(

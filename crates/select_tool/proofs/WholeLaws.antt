@@ -184,7 +184,7 @@ module _ (longest : ℕ) (object : List ℕ) (job : Job) (format : LineFormat) (
       ap (λ f. answered_in f longest object (request_with job.request range) job.query) has_format
       ∙ ap (answered_by format longest object (request_with job.request range)) is_planned
       ∙ ap (λ t. Ok (answered_with p.plan.limit (in_places longest object job format p has_format is_planned places) t))
-        (none_behind lines longest alone (selected_cuts (line_delimiter format) object places))
+      (none_behind lines longest alone (selected_cuts (line_delimiter format) object places))
       ∙ ap (λ l. Ok (processed l (in_places longest object job format p has_format is_planned places))) unlimited
       ∙ ap (λ ys. Ok (processed None ys)) (sym (yields_are longest object job format p has_format is_planned range))
 

@@ -24,7 +24,8 @@ returns-in-Ok-plan_over-clause-reply g c = λ object tells.
     let still : Tells (g.S.Store.current c.plan_over.new.store) object = c.in-Ok-plan_over.ensures.current ∙ tells in
     let format : format_of job.request.input ≡ Some c.in-Some.format =
     ap (λ (i : Input). format_of i) (ap (λ r. r.input) (sym c.request.ensures)) ∙ sym c.of.ensures.value ∙ c.in-Some.is in
-    let is = answered_by_plan c.totals_are_one_more_record.ensures longest object job.request job.query c.in-Some.format c.in-Ok-plan_over.planned format
+    let is = answered_by_plan c.totals_are_one_more_record.ensures c.planned_lines_end_with_totals.ensures longest object job.request c.in-Some.format
+    c.in-Ok-plan_over.planned job.query format
     (ap (λ n. planned_over n object job.request.input job.query) (sym c.in-Ok.ensures.longest) ∙ sym (c.in-Ok-plan_over.ensures.planned object tells)) in
     let wrap = g.K.FrameSink.wrap in
     let old = g.K.FrameSink.written c.args.out.now in
