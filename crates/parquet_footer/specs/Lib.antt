@@ -1,12 +1,7 @@
-pub mod Reads
-pub mod Members
-pub mod ChunkStatistics
-pub mod Logical
-pub mod Elements
-pub mod Chunks
-pub mod FileData
-pub mod Kinds
-pub mod Layout
-pub mod Files
+pub mod Numbers
 pub mod Schema
 pub mod Groups
+pub mod Columns
+pub mod Footers
+pub mod FooterSound
+pub mod Walks

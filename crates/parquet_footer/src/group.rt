@@ -1,104 +1,43 @@
-//! Groups of rows.
-ghost use Rattle.std.specs.Prelude.{◌≡◌, OnOk, Ok, Err, Result, ℕ, ℤ, None};
-ghost use Rattle.thrift_compact.specs.declared.faults.ThriftFault.{ThriftFault};
-ghost use Rattle.thrift_compact.specs.declared.kinds.Kind.TheVariants as kind;
-ghost use Rattle.thrift_compact.specs.States.{MovesOn};
-ghost use Rattle.thrift_compact.specs.Trees.{Datum, AtDatum};
-ghost use Rattle.parquet_footer.specs.Reads.{Gives, EndsAt, Takes, Passed};
-ghost use Rattle.parquet_footer.specs.Members.{is_struct, is_int, is_binary};
-ghost use Rattle.parquet_footer.specs.Chunks.{put_group, finish_group, group_of};
+//! The groups of rows, with a chunk for each column.
+ghost use Rattle.std.specs.Prelude.{◌≡◌, ◌≤◌, ◌<◌, map, IfOk, Option, List, ℕ};
+ghost use Rattle.std.specs.Option.{option_copied};
+ghost use Rattle.parquet_footer.specs.Columns.{is_by_type, is_ordered, natural_there, null_count, least_of, most_of, no_chunk, told_chunk, chunk_at, group_of, groups_of};
 
-use crate::chunk::ColumnChunk;
-use crate::faults::ReadFault;
-use crate::members::{Member, read_list};
-use crate::structs::{Slots, read_struct};
-use crate::values::{pass, read_number};
+use crate::column::Column;
+use crate::places::{chunk_start, group_start, has_rows, natural};
+use parquet_metadata::{ColumnChunk, ColumnOrder, RowGroup, Statistics};
 use sqlite_items::Items;
-use std::alloc::Global;
-use thrift_compact::{Kind, Reader};
+use std::alloc::{AllocError, Global};
 
-/// A group of rows (Apache Parquet, struct RowGroup).
+/// What a group has of a column.
 #[derive(Drop)]
-pub struct RowGroup {
-    pub columns: Items<ColumnChunk>,
-    pub total: i64,
-    pub rows: i64,
+pub struct Chunk {
+    /// The place of the first page in the file.
+    pub start: u64,
+    /// The size of all pages in the file, in bytes.
+    pub bytes: u64,
+    /// How many values are null.
+    pub nulls: Option<u64>,
+    /// No value is below these bytes, by the order of the column's type.
+    pub least: Option<Items<u8>>,
+    /// No value is above these bytes, likewise.
+    pub most: Option<Items<u8>>,
 }
 
+/// A group of at least one row.
 #[derive(Drop)]
-struct GroupSlots {
-    columns: Option<Items<ColumnChunk>>,
-    total: Option<i64>,
-    rows: Option<i64>,
+pub struct Group {
+    pub rows: u64,
+    /// The place of its first page in the file.
+    pub start: u64,
+    /// A chunk for each column.
+    pub chunks: Items<Chunk>,
 }
 
-impl GroupSlots {
-    // The group, whose struct ends at this place.
-    fn finish(self, end: u64) -> Result<RowGroup, ReadFault>
-        ensures { Gives (finish_group self end) result }
-    {
-        let missing = ReadFault::Faulty(end);
-        Ok(RowGroup {
-            columns: self.columns.ok_or(missing)?,
-            total: self.total.ok_or(missing)?,
-            rows: self.rows.ok_or(missing)?,
-        })
-    }
-}
-
-impl Slots for GroupSlots {
-    ghost put = { put_group };
-
-    fn take(
-        &mut self,
-        alloc: Global,
-        reader: &mut Reader<'_>,
-        number: i16,
-        kind: Kind,
-    ) -> Result<(), ReadFault> {
-        match kind {
-            Kind::List => {
-                if number == 1 {
-                    if let Some(columns) = read_list(alloc, reader)? {
-                        self.columns = Some(columns);
-                    }
-                    return Ok(());
-                }
-            }
-            Kind::I64 => {
-                if number == 2 {
-                    self.total = Some(read_number(reader, kind)?);
-                    return Ok(());
-                }
-                if number == 3 {
-                    self.rows = Some(read_number(reader, kind)?);
-                    return Ok(());
-                }
-            }
-            _ => {}
-        }
-        pass(reader, kind)
-    }
-}
-
-impl Member for RowGroup {
-    ghost read = { group_of };
-
-    ghost is_kind = { is_struct };
-
-    fn is_kind(kind: Kind) -> bool {
-        matches!(kind, Kind::Struct)
-    }
-
-    fn read(alloc: Global, reader: &mut Reader<'_>, _first: bool) -> Result<RowGroup, ReadFault> {
-        let empty = GroupSlots {
-            columns: None,
-            total: None,
-            rows: None,
-        };
-        match read_struct(empty, alloc, reader) {
-            Ok((slots, end)) => slots.finish(end),
-            Err(fault) => Err(fault),
-        }
-    }
+/// How the file tells that the values of its leaves are ordered.
+#[derive(Clone, Copy, Drop)]
+pub(crate) struct Orders<'f> {
+    pub told: &'f Option<Items<ColumnOrder>>,
+    /// How many leaves there are.
+    pub leaves: usize,
 }
