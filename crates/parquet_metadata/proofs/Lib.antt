@@ -1,3 +1,4 @@
 pub mod FieldLemmas
 pub mod MemberLemmas
 pub mod ReadLemmas
+pub mod PlaceLemmas

@@ -1,5 +1,5 @@
 -- What a stored file's footer has, by the tree of the footer's bytes, or the first check that the file fails.
-use Rattle.std.specs.Prelude.{◌≡◌, ℕ, pos, ◌+◌, ◌-◌, ◌^◌, min, List, length, Result, Ok, Err}
+use Rattle.std.specs.Prelude.{◌≡◌, ℕ, pos, ◌+◌, ◌<◌, ◌^◌, List, length, Result, Ok, Err}
 use Rattle.thrift_compact.specs.declared.faults.ThriftFault.{ThriftFault}
 use Rattle.thrift_compact.specs.Trees.{FieldList, AreFields}
 use Rattle.parquet_metadata.specs.declared.faults.FooterError.{FooterError}
@@ -17,11 +17,10 @@ abbrev pub IsTreeOf : Result (List ℕ) FooterError → FieldList → Type 0
 IsTreeOf (Ok bytes) fields = (answer : Result ℕ ThriftFault) × AreFields bytes 1 (pos 0) 0 fields answer
 IsTreeOf (Err e) fields = Unit {0}
 
--- A fault's place is counted from the footer's front, and one in the file from the file's. It is kept in 64
--- bits, whose end no place of a file reaches.
+-- A fault's place is counted from the footer's front, and one in the file from the file's.
 abbrev pub in_file : ℕ → Read FileMetaData → Result PlacedMetadata FooterError
 in_file place (Ok metadata) = Ok (record { place = place; metadata = metadata })
-in_file place (Err at) = Err (BadFooter (min (place + at) (2 ^ 64 - 1)))
+in_file place (Err at) = Err (BadFooter (place + at))
 
 abbrev pub file_by : List ℕ → Result (List ℕ) FooterError → FieldList → Result PlacedMetadata FooterError
 file_by object (Ok bytes) fields =
@@ -31,7 +30,12 @@ file_by object (Err e) fields = Err e
 -- the error of a fault in the footer's bytes
 abbrev pub error_at : ℕ → ReadFault → FooterError
 error_at place fault.OutOfMemory = OutOfMemory
-error_at place (fault.Faulty at) = BadFooter (min (place + at) (2 ^ 64 - 1))
+error_at place (fault.Faulty at) = BadFooter (place + at)
+
+-- a fault's place in the file is a number of 64 bits
+abbrev pub FitsBehind : ℕ → ReadFault → Type 0
+FitsBehind place fault.OutOfMemory = Unit {0}
+FitsBehind place (fault.Faulty at) = place + at < 2 ^ 64
 
 -- what the file's footer has, by its tree
 abbrev pub file_of : List ℕ → FieldList → Result PlacedMetadata FooterError

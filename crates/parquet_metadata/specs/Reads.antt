@@ -1,7 +1,7 @@
 -- How a struct is read from the tree of its fields (Apache Parquet, "Metadata": Thrift structs): field by field
 -- in the order of the bytes, so that the last one of a number and the right kind counts. The answer is what
 -- was read, or the place of the first fault.
-use Rattle.std.specs.Prelude.{◌≡◌, ℕ, ℤ, List, Option, None, Some, Result, Ok, Err}
+use Rattle.std.specs.Prelude.{◌≡◌, ◌≤◌, ℕ, ℤ, List, length, Option, None, Some, Result, Ok, Err}
 use Rattle.thrift_compact.specs.declared.faults.ThriftFault.{ThriftFault}
 use Rattle.thrift_compact.specs.declared.kinds.Kind.{Kind}
 use Rattle.thrift_compact.specs.Opens.{ended, below_top}
@@ -104,3 +104,19 @@ required (Some a) end next = next a
 abbrev pub or_before : {A : Type 0} → Option A → Option A → Option A
 or_before None before = before
 or_before (Some list) before = Some list
+
+-- a fault's place isn't behind the reader
+abbrev pub IsBefore : {X : Type 0} → Result X ReadFault → State → Type 0
+IsBefore (Ok x) new = Unit {0}
+IsBefore (Err (Faulty at)) new = at ≤ new.at
+IsBefore (Err OutOfMemory) new = Unit {0}
+
+-- a fault's place is the end of a struct
+abbrev pub IsEnd : ℕ → ReadFault → Type 0
+IsEnd end (Faulty at) = at ≡ end
+IsEnd end OutOfMemory = Unit {0}
+
+-- a fault's place is one in the bytes, or their end
+abbrev pub IsIn : List ℕ → ReadFault → Type 0
+IsIn bytes (Faulty at) = at ≤ length bytes
+IsIn bytes OutOfMemory = Unit {0}

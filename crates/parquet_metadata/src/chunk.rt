@@ -1,10 +1,10 @@
 //! The chunks of a group's columns.
-ghost use Rattle.std.specs.Prelude.{◌≡◌, OnOk, Ok, Err, Result, ℕ, ℤ, None};
+ghost use Rattle.std.specs.Prelude.{◌≡◌, OnOk, IfErr, Ok, Err, Result, ℕ, ℤ, None};
 ghost use Rattle.thrift_compact.specs.declared.faults.ThriftFault.{ThriftFault};
 ghost use Rattle.thrift_compact.specs.declared.kinds.Kind.TheVariants as kind;
 ghost use Rattle.thrift_compact.specs.States.{MovesOn};
 ghost use Rattle.thrift_compact.specs.Trees.{Datum, AtDatum};
-ghost use Rattle.parquet_metadata.specs.Reads.{Gives, EndsAt, Takes, Passed};
+ghost use Rattle.parquet_metadata.specs.Reads.{Gives, EndsAt, Takes, Passed, IsBefore, IsEnd};
 ghost use Rattle.parquet_metadata.specs.Members.{is_struct, is_int, is_binary};
 ghost use Rattle.parquet_metadata.specs.Chunks.{number_member, bytes_member, put_meta, put_meta_number, finish_meta, meta_of, put_chunk, finish_chunk, chunk_of};
 
@@ -90,6 +90,7 @@ impl MetaSlots {
             → Takes (put_meta_number self.old number d) result self.new answer reader.new }
         ensures passed { OnOk result (Passed reader.old reader.new) }
         ensures moves { MovesOn reader.old reader.new }
+        ensures place { reader.old.fault ≡ None → IsBefore result reader.new }
     {
         match number {
             5 => self.values = Some(read_number(reader, Kind::I64)?),
@@ -113,6 +114,7 @@ impl MetaSlots {
             → Takes (put_meta self.old number kind.List d) result self.new answer reader.new }
         ensures passed { OnOk result (Passed reader.old reader.new) }
         ensures moves { MovesOn reader.old reader.new }
+        ensures place { reader.old.fault ≡ None → IsBefore result reader.new }
     {
         if number == 2 {
             if let Some(encodings) = read_list(alloc, reader)? {
@@ -131,7 +133,8 @@ impl MetaSlots {
 
     // What is told of the chunk, whose struct ends at this place.
     fn finish(self, end: u64) -> Result<ColumnMetaData, ReadFault>
-        ensures { Gives (finish_meta self end) result }
+        ensures given { Gives (finish_meta self end) result }
+        ensures place { IfErr result (IsEnd end) }
     {
         let missing = ReadFault::Faulty(end);
         Ok(ColumnMetaData {
@@ -189,6 +192,7 @@ fn read_meta(alloc: Global, reader: &mut Reader<'_>) -> Result<ColumnMetaData, R
         → Gives (meta_of d) result × EndsAt result answer reader.new }
     ensures passed { OnOk result (Passed reader.old reader.new) }
     ensures moves { MovesOn reader.old reader.new }
+    ensures place { reader.old.fault ≡ None → IsBefore result reader.new }
 {
     let empty = MetaSlots {
         physical: None,
@@ -218,7 +222,8 @@ struct ChunkSlots {
 impl ChunkSlots {
     // The chunk, whose struct ends at this place.
     fn finish(self, end: u64) -> Result<ColumnChunk, ReadFault>
-        ensures { Gives (finish_chunk self end) result }
+        ensures given { Gives (finish_chunk self end) result }
+        ensures place { IfErr result (IsEnd end) }
     {
         let missing = ReadFault::Faulty(end);
         Ok(ColumnChunk {

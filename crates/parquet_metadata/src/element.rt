@@ -1,10 +1,10 @@
 //! The elements of a schema.
-ghost use Rattle.std.specs.Prelude.{◌≡◌, OnOk, Ok, Err, Result, ℕ, ℤ, None};
+ghost use Rattle.std.specs.Prelude.{◌≡◌, OnOk, IfErr, Ok, Err, Result, ℕ, ℤ, None};
 ghost use Rattle.thrift_compact.specs.declared.faults.ThriftFault.{ThriftFault};
 ghost use Rattle.thrift_compact.specs.declared.kinds.Kind.TheVariants as kind;
 ghost use Rattle.thrift_compact.specs.States.{MovesOn};
 ghost use Rattle.thrift_compact.specs.Trees.{Datum, AtDatum};
-ghost use Rattle.parquet_metadata.specs.Reads.{Gives, EndsAt, Takes, Passed};
+ghost use Rattle.parquet_metadata.specs.Reads.{Gives, EndsAt, Takes, Passed, IsBefore, IsEnd};
 ghost use Rattle.parquet_metadata.specs.Members.{is_struct};
 ghost use Rattle.parquet_metadata.specs.Elements.{put_element, put_element_number, finish_element, element_of};
 
@@ -49,6 +49,7 @@ impl ElementSlots {
             → Takes (put_element_number self.old number d) result self.new answer reader.new }
         ensures passed { OnOk result (Passed reader.old reader.new) }
         ensures moves { MovesOn reader.old reader.new }
+        ensures place { reader.old.fault ≡ None → IsBefore result reader.new }
     {
         match number {
             1 => self.physical = Some(read_number(reader, Kind::I32)?),
@@ -64,7 +65,8 @@ impl ElementSlots {
 
     // The element, whose struct ends at this place.
     fn finish(self, first: bool, end: u64) -> Result<SchemaElement, ReadFault>
-        ensures { Gives (finish_element first self end) result }
+        ensures given { Gives (finish_element first self end) result }
+        ensures place { IfErr result (IsEnd end) }
     {
         let missing = ReadFault::Faulty(end);
         let repetition = self.repetition;

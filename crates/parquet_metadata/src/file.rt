@@ -1,10 +1,10 @@
 //! The metadata of a stored file.
-ghost use Rattle.std.specs.Prelude.{◌≡◌, ◌≤◌, ◌+◌, List, ℕ, IfErr, OnOk};
+ghost use Rattle.std.specs.Prelude.{◌≡◌, ◌≤◌, ◌+◌, List, ℕ, IfOk, IfErr, OnOk};
 ghost use Rattle.select_ports.specs.Stored.{IsOpen};
 ghost use Rattle.select_ports.specs.Causes.{Rose};
 ghost use Rattle.thrift_compact.specs.Trees.{FieldList};
 ghost use Rattle.parquet_metadata.specs.Layout.{Tells, located};
-ghost use Rattle.parquet_metadata.specs.Files.{IsTreeOf, file_of, error_at, GivesFile, HasFileTree};
+ghost use Rattle.parquet_metadata.specs.Files.{IsTreeOf, file_of, error_at, FitsBehind, GivesFile, HasFileTree};
 
 use crate::faults::{FooterError, ReadFault};
 use crate::locate::read_footer_bytes;
@@ -34,6 +34,7 @@ pub fn read_file_metadata<S: Store>(
     ensures tree { (object : List ℕ) → Tells (S.current store.old) object → OnOk result (HasFileTree object) }
     ensures told { (object : List ℕ) → Tells (S.current store.old) object → (fields : FieldList) → IsTreeOf (located object) fields
         → GivesFile (file_of object fields) result }
+    ensures within { IfOk result (λ file. file.place ≤ size) }
     ensures failed { IfErr result (λ e. e ≡ FooterError.Failed → Rose (S.faults store.old) (S.faults store.new)) }
     ensures faults { S.faults store.old ≤ S.faults store.new }
     ensures taken { S.taken store.new ≤ S.taken store.old + size }
@@ -54,12 +55,11 @@ pub fn read_file_metadata<S: Store>(
 
 // The error of a fault in the footer's bytes, which begin at this place of the file.
 fn error_at(place: u64, fault: ReadFault) -> FooterError
+    requires { FitsBehind place fault }
     ensures { result ≡ error_at place fault }
 {
     match fault {
         ReadFault::OutOfMemory => FooterError::OutOfMemory,
-        ReadFault::Faulty(at) => FooterError::BadFooter {
-            at: place.saturating_add(at),
-        },
+        ReadFault::Faulty(at) => FooterError::BadFooter { at: place + at },
     }
 }

@@ -1,10 +1,10 @@
 //! Groups of rows.
-ghost use Rattle.std.specs.Prelude.{◌≡◌, OnOk, Ok, Err, Result, ℕ, ℤ, None};
+ghost use Rattle.std.specs.Prelude.{◌≡◌, OnOk, IfErr, Ok, Err, Result, ℕ, ℤ, None};
 ghost use Rattle.thrift_compact.specs.declared.faults.ThriftFault.{ThriftFault};
 ghost use Rattle.thrift_compact.specs.declared.kinds.Kind.TheVariants as kind;
 ghost use Rattle.thrift_compact.specs.States.{MovesOn};
 ghost use Rattle.thrift_compact.specs.Trees.{Datum, AtDatum};
-ghost use Rattle.parquet_metadata.specs.Reads.{Gives, EndsAt, Takes, Passed};
+ghost use Rattle.parquet_metadata.specs.Reads.{Gives, EndsAt, Takes, Passed, IsEnd};
 ghost use Rattle.parquet_metadata.specs.Members.{is_struct, is_int, is_binary};
 ghost use Rattle.parquet_metadata.specs.Chunks.{put_group, finish_group, group_of};
 
@@ -35,7 +35,8 @@ struct GroupSlots {
 impl GroupSlots {
     // The group, whose struct ends at this place.
     fn finish(self, end: u64) -> Result<RowGroup, ReadFault>
-        ensures { Gives (finish_group self end) result }
+        ensures given { Gives (finish_group self end) result }
+        ensures place { IfErr result (IsEnd end) }
     {
         let missing = ReadFault::Faulty(end);
         Ok(RowGroup {

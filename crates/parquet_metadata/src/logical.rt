@@ -4,7 +4,7 @@ ghost use Rattle.thrift_compact.specs.declared.faults.ThriftFault.{ThriftFault};
 ghost use Rattle.thrift_compact.specs.declared.kinds.Kind.TheVariants as kind;
 ghost use Rattle.thrift_compact.specs.States.{MovesOn};
 ghost use Rattle.thrift_compact.specs.Trees.{Datum, AtDatum};
-ghost use Rattle.parquet_metadata.specs.Reads.{Gives, EndsAt, Passed};
+ghost use Rattle.parquet_metadata.specs.Reads.{Gives, EndsAt, Passed, IsBefore};
 ghost use Rattle.parquet_metadata.specs.Logical.{put_unit, unit_of, put_timestamp, timestamp_of, put_decimal, decimal_of, put_integer, integer_of, is_text, member_of, put_logical, logical_of};
 
 use crate::faults::ReadFault;
@@ -74,6 +74,7 @@ fn read_unit(alloc: Global, reader: &mut Reader<'_>) -> Result<Option<TimeUnit>,
         → Gives (unit_of d) result × EndsAt result answer reader.new }
     ensures passed { OnOk result (Passed reader.old reader.new) }
     ensures moves { MovesOn reader.old reader.new }
+    ensures place { reader.old.fault ≡ None → IsBefore result reader.new }
 {
     match read_struct(UnitSlots { unit: None }, alloc, reader) {
         Ok((slots, _)) => Ok(slots.unit),
@@ -114,6 +115,7 @@ fn read_timestamp(alloc: Global, reader: &mut Reader<'_>) -> Result<Option<TimeU
         → Gives (timestamp_of d) result × EndsAt result answer reader.new }
     ensures passed { OnOk result (Passed reader.old reader.new) }
     ensures moves { MovesOn reader.old reader.new }
+    ensures place { reader.old.fault ≡ None → IsBefore result reader.new }
 {
     match read_struct(TimestampSlots { unit: None }, alloc, reader) {
         Ok((slots, _)) => Ok(slots.unit),
@@ -154,6 +156,7 @@ fn read_decimal(alloc: Global, reader: &mut Reader<'_>) -> Result<Option<i64>, R
         → Gives (decimal_of d) result × EndsAt result answer reader.new }
     ensures passed { OnOk result (Passed reader.old reader.new) }
     ensures moves { MovesOn reader.old reader.new }
+    ensures place { reader.old.fault ≡ None → IsBefore result reader.new }
 {
     match read_struct(DecimalSlots { scale: None }, alloc, reader) {
         Ok((slots, _)) => Ok(slots.scale),
@@ -200,6 +203,7 @@ fn read_integer(alloc: Global, reader: &mut Reader<'_>) -> Result<Option<bool>, 
         → Gives (integer_of d) result × EndsAt result answer reader.new }
     ensures passed { OnOk result (Passed reader.old reader.new) }
     ensures moves { MovesOn reader.old reader.new }
+    ensures place { reader.old.fault ≡ None → IsBefore result reader.new }
 {
     match read_struct(IntegerSlots { signed: None }, alloc, reader) {
         Ok((slots, _)) => Ok(slots.signed),
@@ -252,6 +256,7 @@ fn read_member(
         → Gives (member_of number before d) result × EndsAt result answer reader.new }
     ensures passed { OnOk result (Passed reader.old reader.new) }
     ensures moves { MovesOn reader.old reader.new }
+    ensures place { reader.old.fault ≡ None → IsBefore result reader.new }
 {
     if is_text(number) {
         pass(reader, Kind::Struct)?;
@@ -280,6 +285,7 @@ pub(crate) fn read_logical(alloc: Global, reader: &mut Reader<'_>) -> Result<Log
         → Gives (logical_of d) result × EndsAt result answer reader.new }
     ensures passed { OnOk result (Passed reader.old reader.new) }
     ensures moves { MovesOn reader.old reader.new }
+    ensures place { reader.old.fault ≡ None → IsBefore result reader.new }
 {
     let empty = LogicalSlots {
         logical: LogicalType::Other,

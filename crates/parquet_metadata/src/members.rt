@@ -8,7 +8,7 @@ ghost use Rattle.thrift_compact.specs.Items.{members};
 ghost use Rattle.thrift_compact.specs.Opens.{with_opened};
 ghost use Rattle.thrift_compact.specs.States.{MovesOn};
 ghost use Rattle.thrift_compact.specs.Trees.{Datum, Data, AtDatum};
-ghost use Rattle.parquet_metadata.specs.Reads.{Read, Gives, EndsAt, Passed};
+ghost use Rattle.parquet_metadata.specs.Reads.{Read, Gives, EndsAt, Passed, IsBefore};
 ghost use Rattle.parquet_metadata.specs.Members.{members_of, members_passed, list_of, AtMembers, PassedMembers};
 
 use crate::faults::{ReadFault, faulty};
@@ -35,7 +35,8 @@ pub(crate) trait Member {
         ensures seen { (each : Kind) (d : Datum) (answer : Result ℕ ThriftFault) → is_kind each ≡ true → AtDatum each reader.old d answer
             → Gives (read first d) result × EndsAt result answer reader.new }
         ensures passed { OnOk result (Passed reader.old reader.new) }
-        ensures moves { MovesOn reader.old reader.new };
+        ensures moves { MovesOn reader.old reader.new }
+        ensures place { reader.old.fault ≡ None → IsBefore result reader.new };
 }
 
 /// Reads a list, or passes over one whose members are of another kind.
@@ -47,6 +48,7 @@ pub(crate) fn read_list<T: Member + Drop>(
         → Gives (list_of T.is_kind T.read d) result × EndsAt result answer reader.new }
     ensures passed { OnOk result (Passed reader.old reader.new) }
     ensures moves { MovesOn reader.old reader.new }
+    ensures place { reader.old.fault ≡ None → IsBefore result reader.new }
 {
     match reader.list() {
         Ok((kind, size)) => {
@@ -81,6 +83,7 @@ fn read_members<T: Member + Drop>(
     ensures passed { (below : List Open) → reader.old.nesting ≡ with_opened (members kind kind size) below
         → OnOk result (PassedMembers below reader.old reader.new) }
     ensures moves { MovesOn reader.old reader.new }
+    ensures place { reader.old.fault ≡ None → IsBefore result reader.new }
 {
     let mut items = Items::new(alloc);
     let mut first = true;
@@ -108,6 +111,7 @@ fn pass_members(reader: &mut Reader<'_>, kind: Kind, size: u32) -> Result<(), Re
     ensures passed { (below : List Open) → reader.old.nesting ≡ with_opened (members kind kind size) below
         → OnOk result (PassedMembers below reader.old reader.new) }
     ensures moves { MovesOn reader.old reader.new }
+    ensures place { reader.old.fault ≡ None → IsBefore result reader.new }
 {
     let mut left = size;
     while left > 0 {

@@ -1,10 +1,10 @@
 //! What a file's footer has.
-ghost use Rattle.std.specs.Prelude.{◌≡◌, OnOk, Ok, Err, Result, ℕ, ℤ, None, pos};
+ghost use Rattle.std.specs.Prelude.{◌≡◌, OnOk, IfErr, Ok, Err, Result, ℕ, ℤ, None, pos};
 ghost use Rattle.thrift_compact.specs.declared.faults.ThriftFault.{ThriftFault};
 ghost use Rattle.thrift_compact.specs.declared.kinds.Kind.TheVariants as kind;
 ghost use Rattle.thrift_compact.specs.States.{MovesOn};
 ghost use Rattle.thrift_compact.specs.Trees.{Datum, AtDatum};
-ghost use Rattle.parquet_metadata.specs.Reads.{Gives, EndsAt, Takes, Passed};
+ghost use Rattle.parquet_metadata.specs.Reads.{Gives, EndsAt, Takes, Passed, IsBefore, IsEnd, IsIn};
 ghost use Rattle.parquet_metadata.specs.Members.{is_struct, is_int, is_binary};
 ghost use Rattle.thrift_compact.specs.Trees.{FieldList, AreFields, HasTree};
 ghost use Rattle.parquet_metadata.specs.FileData.{put_order, order_of, put_file, put_file_list, finish_file, metadata_of};
@@ -99,6 +99,7 @@ impl FileSlots {
             → Takes (put_file_list self.old number d) result self.new answer reader.new }
         ensures passed { OnOk result (Passed reader.old reader.new) }
         ensures moves { MovesOn reader.old reader.new }
+        ensures place { reader.old.fault ≡ None → IsBefore result reader.new }
     {
         if number == 2 {
             if let Some(schema) = read_list(alloc, reader)? {
@@ -123,7 +124,8 @@ impl FileSlots {
 
     // The footer, whose struct ends at this place.
     fn finish(self, end: u64) -> Result<FileMetaData, ReadFault>
-        ensures { Gives (finish_file self end) result }
+        ensures given { Gives (finish_file self end) result }
+        ensures place { IfErr result (IsEnd end) }
     {
         let missing = ReadFault::Faulty(end);
         if !(self.version && self.rows) {
@@ -177,6 +179,7 @@ pub fn read_metadata(alloc: Global, bytes: &[u8]) -> Result<FileMetaData, ReadFa
     ensures tree { HasTree bytes.now }
     ensures seen { (fields : FieldList) (answer : Result ℕ ThriftFault) → AreFields bytes.now 1 (pos 0) 0 fields answer
         → Gives (metadata_of fields) result }
+    ensures within { IfErr result (IsIn bytes.now) }
 {
     bytes_have_a_tree(bytes);
     let mut slots = FileSlots {

@@ -4,7 +4,7 @@ ghost use Rattle.thrift_compact.specs.declared.faults.ThriftFault.{ThriftFault};
 ghost use Rattle.thrift_compact.specs.declared.kinds.Kind.TheVariants as kind;
 ghost use Rattle.thrift_compact.specs.States.{MovesOn};
 ghost use Rattle.thrift_compact.specs.Trees.{Datum, AtDatum};
-ghost use Rattle.parquet_metadata.specs.Reads.{Gives, EndsAt, Passed};
+ghost use Rattle.parquet_metadata.specs.Reads.{Gives, EndsAt, Passed, IsBefore};
 ghost use Rattle.parquet_metadata.specs.ChunkStatistics.{no_statistics, put_statistics, statistics_of, count_of};
 
 use crate::faults::ReadFault;
@@ -73,6 +73,7 @@ pub(crate) fn read_statistics(
         → Gives (statistics_of d) result × EndsAt result answer reader.new }
     ensures passed { OnOk result (Passed reader.old reader.new) }
     ensures moves { MovesOn reader.old reader.new }
+    ensures place { reader.old.fault ≡ None → IsBefore result reader.new }
 {
     let empty = Statistics {
         nulls: None,

@@ -6,7 +6,7 @@ ghost use Rattle.thrift_compact.specs.declared.kinds.Kind.TheVariants as kind;
 ghost use Rattle.thrift_compact.specs.Opens.{in_fields};
 ghost use Rattle.thrift_compact.specs.States.{MovesOn};
 ghost use Rattle.thrift_compact.specs.Trees.{Datum, FieldList, AtDatum, AtFields};
-ghost use Rattle.parquet_metadata.specs.Reads.{Read, fields_into, slots_of, then_on, Gives, EndsAt, Takes, TakesAll, Passed, Closed};
+ghost use Rattle.parquet_metadata.specs.Reads.{Read, fields_into, slots_of, then_on, Gives, EndsAt, Takes, TakesAll, Passed, Closed, IsBefore};
 
 use crate::faults::{ReadFault, faulty};
 use std::alloc::Global;
@@ -28,7 +28,8 @@ pub(crate) trait Slots {
         ensures seen { (d : Datum) (answer : Result ℕ ThriftFault) → AtDatum kind reader.old d answer
             → Takes (put self.old number kind d) result self.new answer reader.new }
         ensures passed { OnOk result (Passed reader.old reader.new) }
-        ensures moves { MovesOn reader.old reader.new };
+        ensures moves { MovesOn reader.old reader.new }
+        ensures place { reader.old.fault ≡ None → IsBefore result reader.new };
 }
 
 /// Reads the fields that are left of the innermost struct, up to the byte 0 that ends it, whose place is the
@@ -43,7 +44,9 @@ pub(crate) fn take_fields<S: Slots>(
     ensures seen { (fields : FieldList) (answer : Result ℕ ThriftFault) → AtFields reader.old fields answer
         → TakesAll (fields_into S.put slots.old fields) result slots.new answer reader.new }
     ensures closed { OnOk result (Closed reader.old reader.new) }
+    ensures end { IfOk result (λ end. end ≤ reader.new.at) }
     ensures moves { MovesOn reader.old reader.new }
+    ensures place { reader.old.fault ≡ None → IsBefore result reader.new }
 {
     loop {
         let place = reader.at() as u64;
@@ -67,7 +70,9 @@ pub(crate) fn read_struct<S: Slots + Drop>(
     ensures seen { (d : Datum) (answer : Result ℕ ThriftFault) → AtDatum kind.Struct reader.old d answer
         → Gives (slots_of S.put slots d) result × EndsAt result answer reader.new }
     ensures passed { OnOk result (Passed reader.old reader.new) }
+    ensures end { IfOk result (λ r. r.1 ≤ reader.new.at) }
     ensures moves { MovesOn reader.old reader.new }
+    ensures place { reader.old.fault ≡ None → IsBefore result reader.new }
 {
     let mut slots = slots;
     match reader.enter() {

@@ -5,7 +5,7 @@ ghost use Rattle.thrift_compact.specs.declared.faults.ThriftFault.{ThriftFault};
 ghost use Rattle.thrift_compact.specs.declared.kinds.Kind.TheVariants as kind;
 ghost use Rattle.thrift_compact.specs.States.{MovesOn};
 ghost use Rattle.thrift_compact.specs.Trees.{Datum, AtDatum, number_in, bytes_in, skip_in, is_number};
-ghost use Rattle.parquet_metadata.specs.Reads.{at_place, Gives, EndsAt, Passed};
+ghost use Rattle.parquet_metadata.specs.Reads.{at_place, Gives, EndsAt, Passed, IsBefore};
 
 use crate::faults::{ReadFault, faulty};
 use sqlite_items::Items;
@@ -20,6 +20,7 @@ pub(crate) fn read_number(reader: &mut Reader<'_>, kind: Kind) -> Result<i64, Re
     ensures range { IfOk result (λ z. FitsSigned w64 z) }
     ensures passed { OnOk result (Passed reader.old reader.new) }
     ensures moves { MovesOn reader.old reader.new }
+    ensures place { reader.old.fault ≡ None → IsBefore result reader.new }
 {
     match reader.int(kind) {
         Ok(number) => Ok(number),
@@ -33,6 +34,7 @@ pub(crate) fn read_bytes(alloc: Global, reader: &mut Reader<'_>) -> Result<Items
         → Gives (at_place (bytes_in d)) result × EndsAt result answer reader.new }
     ensures passed { OnOk result (Passed reader.old reader.new) }
     ensures moves { MovesOn reader.old reader.new }
+    ensures place { reader.old.fault ≡ None → IsBefore result reader.new }
 {
     match reader.bytes() {
         Ok(bytes) => match Items::from_slice(alloc, bytes) {
@@ -49,6 +51,7 @@ pub(crate) fn pass(reader: &mut Reader<'_>, kind: Kind) -> Result<(), ReadFault>
         → Gives (at_place (skip_in d)) result × EndsAt result answer reader.new }
     ensures passed { OnOk result (Passed reader.old reader.new) }
     ensures moves { MovesOn reader.old reader.new }
+    ensures place { reader.old.fault ≡ None → IsBefore result reader.new }
 {
     match reader.skip(kind) {
         Ok(()) => Ok(()),
