@@ -3,6 +3,7 @@ use Rattle.std.specs.Prelude.{ℕ, ℤ, pos, ◌+ℤ◌, int_lt, nat_le, bytes_e
 use Rattle.std.specs.List.{list_any, list_all, filter}
 use Rattle.std.specs.Ordering.{int_eq}
 use Rattle.parquet_metadata.specs.declared.chunk.ColumnChunk.{ColumnChunk}
+use Rattle.parquet_metadata.specs.declared.chunk.ColumnMetaData.{ColumnMetaData}
 use Rattle.parquet_metadata.specs.declared.group.RowGroup.{RowGroup}
 use Rattle.parquet_footer.specs.Numbers.{natural, is_negative}
 use Rattle.parquet_footer.specs.Schema.{Leaf}
@@ -12,16 +13,20 @@ is_negative_there None = false
 is_negative_there (Some z) = is_negative z
 
 -- a number of a chunk is negative; the count of its nulls is none of them
+abbrev pub size_negative : ColumnMetaData → Bool
+size_negative m =
+    is_negative m.values
+    || (is_negative m.uncompressed
+    || (is_negative m.compressed
+    || (is_negative m.data_page || is_negative_there m.dictionary_page)))
+
+abbrev pub meta_negative : ColumnMetaData → Bool
+meta_negative m =
+    is_negative m.physical
+    || (is_negative m.codec || (size_negative m || list_any is_negative m.encodings))
+
 abbrev pub chunk_negative : ColumnChunk → Bool
-chunk_negative c =
-    is_negative c.offset
-    || (is_negative c.meta.physical
-    || (list_any is_negative c.meta.encodings
-    || (is_negative c.meta.codec
-    || (is_negative c.meta.values
-    || (is_negative c.meta.uncompressed
-    || (is_negative c.meta.compressed
-    || (is_negative c.meta.data_page || is_negative_there c.meta.dictionary_page)))))))
+chunk_negative c = is_negative c.offset || meta_negative c.meta
 
 abbrev pub group_negative : RowGroup → Bool
 group_negative g =
@@ -72,7 +77,7 @@ is_placed footer leaves g =
 abbrev pub has_rows : RowGroup → Bool
 has_rows g = int_lt (pos 0) g.rows
 
-unfoldable pub kept : List RowGroup → List RowGroup
+abbrev pub kept : List RowGroup → List RowGroup
 kept groups = filter has_rows groups
 
 -- a group starts where its first chunk does

@@ -5,3 +5,4 @@ pub mod Columns
 pub mod Footers
 pub mod FooterSound
 pub mod Walks
+pub mod Open

@@ -8,8 +8,8 @@ use Rattle.parquet_footer.specs.Numbers.{natural, is_negative}
 
 mutual
   pub data Node : Type 0 where
-    leaf : SchemaElement → Node
-    group : SchemaElement → Nodes → Node
+    leaf_node : SchemaElement → Node
+    group_node : SchemaElement → Nodes → Node
 
   pub data Nodes : Type 0 where
     no_nodes : Nodes
@@ -45,13 +45,13 @@ parted (suc n) (node m nodes) = behind_first m (parted n nodes)
 -- A group takes its children off the nodes that stand behind it, and stands before the others. A leaf takes none.
 abbrev pub with_children : SchemaElement → Option (Nodes × Nodes) → Option Nodes
 with_children e None = None
-with_children e (Some parts) = Some (node (group e parts.0) parts.1)
+with_children e (Some parts) = Some (node (group_node e parts.0) parts.1)
 
 abbrev pub before_nodes : SchemaElement → Option Nodes → Option Nodes
 before_nodes e None = None
 before_nodes e (Some nodes) =
     if is_group e then with_children e (parted (node_count e.children) nodes)
-    else Some (node (leaf e) nodes)
+    else Some (node (leaf_node e) nodes)
 
 -- the trees that whole elements list, read from the last element to the first
 unfoldable pub forest_of : List SchemaElement → Option Nodes
@@ -60,7 +60,7 @@ forest_of (e ∷ elements) = if is_whole e then before_nodes e (forest_of elemen
 
 -- the nodes below the root, where the elements are one tree whose root is a group
 abbrev pub below_root : Option Nodes → Option Nodes
-below_root (Some (node (group e nodes) no_nodes)) = Some nodes
+below_root (Some (node (group_node e nodes) no_nodes)) = Some nodes
 below_root _ = None
 
 unfoldable pub schema_of : List SchemaElement → Option Nodes
@@ -74,8 +74,8 @@ pub record Leaf : Type 0 where
 -- the leaves in order, of nodes that stand under these names
 abbrev mutual
   pub leaves_in : List (List ℕ) → Node → List Leaf
-  leaves_in path (leaf e) = record { path = path ++ e.name ∷ []; element = e } ∷ []
-  leaves_in path (group e nodes) = leaves_under (path ++ e.name ∷ []) nodes
+  leaves_in path (leaf_node e) = record { path = path ++ e.name ∷ []; element = e } ∷ []
+  leaves_in path (group_node e nodes) = leaves_under (path ++ e.name ∷ []) nodes
 
   pub leaves_under : List (List ℕ) → Nodes → List Leaf
   leaves_under path no_nodes = []
@@ -84,8 +84,8 @@ abbrev mutual
 -- how many leaves there are
 abbrev mutual
   pub leaf_count_in : Node → ℕ
-  leaf_count_in (leaf e) = 1
-  leaf_count_in (group e nodes) = leaf_count nodes
+  leaf_count_in (leaf_node e) = 1
+  leaf_count_in (group_node e nodes) = leaf_count nodes
 
   pub leaf_count : Nodes → ℕ
   leaf_count no_nodes = 0
