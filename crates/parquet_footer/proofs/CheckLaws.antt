@@ -13,12 +13,12 @@ use Rattle.parquet_metadata.specs.declared.faults.FooterError.{FooterError}
 use Rattle.parquet_metadata.specs.declared.faults.FooterError.TheVariants.{Failed, OutOfMemory, NotParquet, FooterTooLarge, BadFooter, BadSchema, BadPlaces, GroupsOutOfOrder}
 use Rattle.parquet_metadata.specs.Files.{file_of, GivesFile}
 use Rattle.parquet_footer.specs.declared.column.Column.{Column}
-use Rattle.parquet_footer.specs.Schema.{Nodes, Leaf, node_count, is_whole, forest_of, schema_of, leaves_under, leaf_count}
+use Rattle.parquet_footer.specs.Schema.{Nodes, Leaf, node_count, is_whole, forest_of, schema_of, leaves_under, leaf_count, count, flat_node, flat, IsCounted, AreCounted}
 use Rattle.parquet_footer.specs.Groups.{is_placed}
 use Rattle.parquet_footer.specs.Columns.{columns_of, groups_of}
 use Rattle.parquet_footer.specs.Footers.{FooterView, footer_of, are_in_order, by_schema, checked, checked_after, footer_in, GivesFooter}
 use Rattle.parquet_footer.specs.Walks.{is_forest, AreTrees, leaves_by, columns_by, leaf_number, walked, walked_footer}
-use Rattle.parquet_footer.proofs.SchemaLaws.{flat, AreCounted, IsRooted, rooted, schema_is}
+use Rattle.parquet_footer.proofs.SchemaLaws.{IsRooted, rooted, schema_is}
 use Rattle.parquet_footer.proofs.LeafLaws.{tree_leaves, tree_number}
 use Rattle.parquet_footer.proofs.ColumnLaws.{tree_columns}
 
@@ -51,9 +51,9 @@ checked_is size file root below t elements_are is yes_is =
     by_nodes nodes r =
         let flat_is : below ≡ flat nodes = same_below root r.root below (flat nodes) r.elements_are in
         same_checks size file nodes (leaves_by [] below) (columns_by file.metadata.groups 0 0 below) (leaf_number below)
-        (ap (leaves_by []) flat_is ∙ tree_leaves nodes r.counted)
-        (ap (columns_by file.metadata.groups 0 0) flat_is ∙ tree_columns nodes file.metadata.groups 0 r.counted)
-        (ap leaf_number flat_is ∙ tree_number nodes r.counted)
+        (ap (leaves_by []) flat_is ∙ tree_leaves nodes r.counts.2)
+        (ap (columns_by file.metadata.groups 0 0) flat_is ∙ tree_columns nodes file.metadata.groups 0 r.counts.2)
+        (ap leaf_number flat_is ∙ tree_number nodes r.counts.2)
 
     by_tree : (s : Option Nodes) → schema_of (root ∷ below) ≡ s → is_some s ≡ true → by_schema size file.place file.metadata s ≡ walked size file below
     by_tree None e some = absurd (false≢true some)

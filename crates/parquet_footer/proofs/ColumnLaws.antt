@@ -5,10 +5,10 @@ use Rattle.std.specs.Str.{is_utf8}
 use Rattle.parquet_metadata.specs.declared.element.SchemaElement.{SchemaElement}
 use Rattle.parquet_metadata.specs.declared.group.RowGroup.{RowGroup}
 use Rattle.parquet_footer.specs.declared.column.Column.{Column}
-use Rattle.parquet_footer.specs.Schema.{Node, Nodes, leaf_node, group_node, no_nodes, node, node_count, is_whole, leaf_count_in, leaf_count}
+use Rattle.parquet_footer.specs.Schema.{Node, Nodes, leaf_node, group_node, no_nodes, node, node_count, is_whole, leaf_count_in, leaf_count, count, flat_node, flat, IsCounted, AreCounted}
 use Rattle.parquet_footer.specs.Columns.{leaf_column, group_column, columns_of}
 use Rattle.parquet_footer.specs.Walks.{is_forest, leaf_one, column_at, column_before, columns_by}
-use Rattle.parquet_footer.proofs.SchemaLaws.{long_forest, count, flat_node, flat, IsCounted, AreCounted}
+use Rattle.parquet_footer.proofs.SchemaLaws.{long_forest}
 use Rattle.parquet_footer.proofs.LeafLaws.{one_more_leaf, no_more_leaf}
 
 -- so many nodes are due first in elements that are trees

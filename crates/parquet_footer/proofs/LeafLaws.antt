@@ -4,9 +4,8 @@ use Rattle.std.proofs.lemmas.Bool.{lt-ltb, le-ltb, eq-eqb, ne_eqb, both_ways}
 use Rattle.std.proofs.Math.Bool.{and-false}
 use Rattle.parquet_metadata.specs.declared.element.SchemaElement.{SchemaElement}
 use Rattle.parquet_metadata.specs.declared.chunk.ColumnChunk.{ColumnChunk}
-use Rattle.parquet_footer.specs.Schema.{Node, Nodes, leaf_node, group_node, no_nodes, node, Leaf, node_count, leaves_in, leaves_under, leaf_count_in, leaf_count}
+use Rattle.parquet_footer.specs.Schema.{Node, Nodes, leaf_node, group_node, no_nodes, node, Leaf, node_count, leaves_in, leaves_under, leaf_count_in, leaf_count, count, flat_node, flat, IsCounted, AreCounted}
 use Rattle.parquet_footer.specs.Groups.{is_leaf, are_leaves}
-use Rattle.parquet_footer.proofs.SchemaLaws.{count, flat_node, flat, IsCounted, AreCounted}
 use Rattle.parquet_footer.specs.Walks.{Level, path_of, entered, leaves_by, leaf_one, leaf_number}
 
 one_leaf : (g : Bool) (levels more : List Leaf) (l : Leaf) (n : ℕ) → length levels ≡ n → length more ≡ n → length (if g then levels else l ∷ more) ≡ (if g then 0 else 1) + n

@@ -5,3 +5,4 @@ pub mod LeafLaws
 pub mod ColumnLaws
 pub mod SoundLaws
 pub mod CheckLaws
+pub mod TreeLaws

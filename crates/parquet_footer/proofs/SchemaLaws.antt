@@ -4,33 +4,8 @@ use Rattle.std.proofs.lemmas.Bool.{lt-ltb, le-ltb, and_right, eq-eqb, ne_eqb}
 use Rattle.std.proofs.lemmas.Bool.Decides.{nat_tests}
 use Rattle.std.proofs.Math.Bool.{and-false}
 use Rattle.parquet_metadata.specs.declared.element.SchemaElement.{SchemaElement}
-use Rattle.parquet_footer.specs.Schema.{Node, Nodes, leaf_node, group_node, no_nodes, node, node_count, is_group, is_whole, behind_first, parted, with_children, before_nodes, forest_of, below_root, schema_of}
+use Rattle.parquet_footer.specs.Schema.{Node, Nodes, leaf_node, group_node, no_nodes, node, node_count, is_group, is_whole, behind_first, parted, with_children, before_nodes, forest_of, below_root, schema_of, count, flat_node, flat, IsCounted, AreCounted, IsSchema}
 use Rattle.parquet_footer.specs.Walks.{is_forest}
-
-abbrev pub count : Nodes → ℕ
-count no_nodes = 0
-count (node n nodes) = count nodes + 1
-
--- the elements of nodes, depth first
-abbrev mutual
-  pub flat_node : Node → List SchemaElement
-  flat_node (leaf_node e) = e ∷ []
-  flat_node (group_node e nodes) = e ∷ flat nodes
-
-  pub flat : Nodes → List SchemaElement
-  flat no_nodes = []
-  flat (node n nodes) = flat_node n ++ flat nodes
-
--- the elements tell the numbers of children that the tree has
-abbrev mutual
-  pub IsCounted : Node → Type 0
-  IsCounted (leaf_node e) = node_count e.children ≡ 0
-  IsCounted (group_node e nodes) =
-      (node_count e.children ≡ count nodes) × (0 < count nodes) × AreCounted nodes
-
-  pub AreCounted : Nodes → Type 0
-  AreCounted no_nodes = Unit {0}
-  AreCounted (node n nodes) = IsCounted n × AreCounted nodes
 
 pub record IsParted (n : ℕ) (nodes : Nodes) (parts : Nodes × Nodes) : Type 0 where
   pub first : count parts.0 ≡ n
@@ -193,7 +168,7 @@ listed (e ∷ elements) = by_whole (is_whole e) (listed_before e elements (fores
 pub record IsRooted (elements : List SchemaElement) (nodes : Nodes) : Type 0 where
   pub root : SchemaElement
   pub elements_are : elements ≡ root ∷ flat nodes
-  pub counted : AreCounted nodes
+  pub counts : (node_count root.children ≡ count nodes) × (0 < count nodes) × AreCounted nodes
 
 rooted_by : (elements : List SchemaElement) (r : Option Nodes) (nodes : Nodes) → Listed elements r → below_root r ≡ Some nodes → IsRooted elements nodes
 rooted_by elements (Some (node (group_node e below) no_nodes)) nodes h is =
@@ -201,7 +176,7 @@ rooted_by elements (Some (node (group_node e below) no_nodes)) nodes h is =
     record {
       root = e;
       elements_are = h.elements_are ∙ ap (λ z. e ∷ z) (append-nil (flat below)) ∙ ap (λ (n : Nodes). e ∷ flat n) same;
-      counted = subst AreCounted same h.counted.0.2;
+      counts = subst (λ (n : Nodes). (node_count e.children ≡ count n) × (0 < count n) × AreCounted n) same (h.counted.0.0, h.counted.0.1, h.counted.0.2);
     }
   where
     some_same : (a b : Nodes) → Some a ≡ Some b → a ≡ b

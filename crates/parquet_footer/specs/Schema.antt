@@ -1,7 +1,8 @@
 -- The schema as a tree (Apache Parquet, "Metadata"; struct SchemaElement): a file lists its elements depth first,
 -- each group before its children, of which it tells the number. An element whose number of children is above 0 is
 -- a group, and any other is a leaf.
-use Rattle.std.specs.Prelude.{ℕ, zero, suc, ℤ, ◌+◌, nat_lt, Bool, false, not, ◌&&◌, ◌||◌, is_some, if◌then◌else◌, List, [], ◌∷◌, ◌++◌, Option, None, Some}
+use Rattle.std.specs.Prelude.{◌≡◌, ◌<◌, ℕ, zero, suc, ℤ, ◌+◌, nat_lt, Bool, true, false, not, ◌&&◌, ◌||◌, is_some, if◌then◌else◌, List, [], ◌∷◌, ◌++◌, Option, None, Some}
+use Rattle.std.specs.List.{list_all}
 use Rattle.std.specs.Str.{is_utf8}
 use Rattle.parquet_metadata.specs.declared.element.SchemaElement.{SchemaElement}
 use Rattle.parquet_footer.specs.Numbers.{natural, is_negative}
@@ -90,3 +91,39 @@ abbrev mutual
   pub leaf_count : Nodes → ℕ
   leaf_count no_nodes = 0
   leaf_count (node n nodes) = leaf_count_in n + leaf_count nodes
+
+-- how many nodes stand beside one another
+abbrev pub count : Nodes → ℕ
+count no_nodes = 0
+count (node n nodes) = count nodes + 1
+
+-- the elements of nodes, depth first
+abbrev mutual
+  pub flat_node : Node → List SchemaElement
+  flat_node (leaf_node e) = e ∷ []
+  flat_node (group_node e nodes) = e ∷ flat nodes
+
+  pub flat : Nodes → List SchemaElement
+  flat no_nodes = []
+  flat (node n nodes) = flat_node n ++ flat nodes
+
+-- the elements tell the numbers of children that the tree has
+abbrev mutual
+  pub IsCounted : Node → Type 0
+  IsCounted (leaf_node e) = node_count e.children ≡ 0
+  IsCounted (group_node e nodes) =
+      (node_count e.children ≡ count nodes) × (0 < count nodes) × AreCounted nodes
+
+  pub AreCounted : Nodes → Type 0
+  AreCounted no_nodes = Unit {0}
+  AreCounted (node n nodes) = IsCounted n × AreCounted nodes
+
+-- The elements are one tree whose root is a group, with these nodes below the root: they list it depth first, each of
+-- them is whole, and each tells the number of its children.
+pub record IsSchema (elements : List SchemaElement) (nodes : Nodes) : Type 0 where
+  pub root : SchemaElement
+  pub elements_are : elements ≡ root ∷ flat nodes
+  pub whole : list_all is_whole elements ≡ true
+  pub some : 0 < count nodes
+  pub root_counts : node_count root.children ≡ count nodes
+  pub counted : AreCounted nodes

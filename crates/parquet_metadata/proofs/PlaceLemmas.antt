@@ -1,11 +1,11 @@
 -- A call that meets a fault leaves the reader at the fault's place.
-use Rattle.std.proofs.Common.{◌≡◌, ◌≤◌, ℕ, ℤ, List, Option, None, Some, Result, Ok, Err, refl, ap, sym, ◌∙◌, arith}
+use Rattle.std.proofs.Common.{◌≡◌, ◌≤◌, ℕ, ℤ, List, Option, None, Some, Result, Ok, Err, ap, arith}
 use Rattle.thrift_compact.specs.declared.faults.ThriftFault.{ThriftFault}
 use Rattle.thrift_compact.specs.declared.kinds.Kind.{Kind}
 use Rattle.thrift_compact.specs.declared.stack.Open.{Open}
 use Rattle.thrift_compact.specs.Items.{Item}
 use Rattle.thrift_compact.specs.Runs.{placed}
-use Rattle.thrift_compact.specs.States.{State, answer, moved, faulted, int_answer, bytes_answer, list_answer, field_answer, enter_answer, given_bytes}
+use Rattle.thrift_compact.specs.States.{State, answer, faulted, int_answer, bytes_answer, list_answer, field_answer, enter_answer, given_bytes}
 
 same_fault : {B : Type 0} (r : Result B ThriftFault) (f g : ThriftFault) → r ≡ Err f → r ≡ Err g → f ≡ g
 same_fault r f g a b = cc
