@@ -1,23 +1,22 @@
 -- The checks by the elements below the root are those by the tree.
-use Rattle.std.proofs.Common.{◌≡◌, ◌≤◌, ℕ, Bool, true, false, not, ◌&&◌, nat_lt, is_some, if◌then◌else◌, List, [], ◌∷◌, length, map, Option, None, Some, Result, Ok, Err, refl, ap, sym, ◌∙◌, subst, arith}
+use Rattle.std.proofs.Common.{◌≡◌, ℕ, pos, Bool, true, false, not, ◌&&◌, nat_lt, is_some, if◌then◌else◌, List, [], ◌∷◌, length, Option, None, Some, Result, Ok, Err, IfOk, refl, ap, sym, ◌∙◌, subst, arith}
 use Rattle.std.specs.List.{list_all}
 use Rattle.std.proofs.lemmas.Bool.{and_parts, false≢true}
 use Rattle.select_ports.specs.Stored.{Opened, IsOpen}
-use Rattle.parquet_metadata.specs.Layout.{Tells}
-use Rattle.thrift_compact.specs.Trees.{FieldList}
+use Rattle.parquet_metadata.specs.Layout.{Tells, located}
+use Rattle.thrift_compact.specs.declared.faults.ThriftFault.{ThriftFault}
+use Rattle.thrift_compact.specs.Trees.{FieldList, AreFields}
 use Rattle.parquet_metadata.specs.declared.element.SchemaElement.{SchemaElement}
-use Rattle.parquet_metadata.specs.declared.group.RowGroup.{RowGroup}
-use Rattle.parquet_metadata.specs.declared.metadata.FileMetaData.{FileMetaData}
 use Rattle.parquet_metadata.specs.declared.file.PlacedMetadata.{PlacedMetadata}
 use Rattle.parquet_metadata.specs.declared.faults.FooterError.{FooterError}
 use Rattle.parquet_metadata.specs.declared.faults.FooterError.TheVariants.{Failed, OutOfMemory, NotParquet, FooterTooLarge, BadFooter, BadSchema, BadPlaces, GroupsOutOfOrder}
-use Rattle.parquet_metadata.specs.Files.{file_of, GivesFile}
+use Rattle.parquet_metadata.specs.Files.{IsTreeOf, HasFileTree, file_of, GivesFile}
 use Rattle.parquet_footer.specs.declared.column.Column.{Column}
-use Rattle.parquet_footer.specs.Schema.{Nodes, Leaf, node_count, is_whole, forest_of, schema_of, leaves_under, leaf_count, count, flat_node, flat, IsCounted, AreCounted}
+use Rattle.parquet_footer.specs.Schema.{Nodes, Leaf, node_count, is_whole, forest_of, schema_of, leaves_under, leaf_count, flat}
 use Rattle.parquet_footer.specs.Groups.{is_placed}
 use Rattle.parquet_footer.specs.Columns.{columns_of, groups_of}
-use Rattle.parquet_footer.specs.Footers.{FooterView, footer_of, are_in_order, by_schema, checked, checked_after, footer_in, GivesFooter}
-use Rattle.parquet_footer.specs.Walks.{is_forest, AreTrees, leaves_by, columns_by, leaf_number, walked, walked_footer}
+use Rattle.parquet_footer.specs.Footers.{FooterView, are_in_order, by_schema, checked, footer_in, IsFooterOf, HasFooter, GivesFooter}
+use Rattle.parquet_footer.specs.Walks.{is_forest, AreTrees, leaves_by, columns_by, leaf_number, walked}
 use Rattle.parquet_footer.proofs.SchemaLaws.{IsRooted, rooted, schema_is}
 use Rattle.parquet_footer.proofs.LeafLaws.{tree_leaves, tree_number}
 use Rattle.parquet_footer.proofs.ColumnLaws.{tree_columns}
@@ -106,3 +105,35 @@ pub told_size : (opened : Opened) (object : List ℕ) (size : ℕ) → IsOpen op
 told_size opened object size is tells =
     let P : Opened → Type 0 = λ o. IsOpen o size in
     (subst P tells is).0
+
+-- ---- one footer
+
+abbrev pub TreesAreOne : Type 0
+TreesAreOne =
+    (bytes : List ℕ) (fields others : FieldList) (a b : Result ℕ ThriftFault) → AreFields bytes 1 (pos 0) 0 fields a → AreFields bytes 1 (pos 0) 0 others b → fields ≡ others
+
+unlocated : (object : List ℕ) (e : FooterError) (fields : FieldList) → located object ≡ Err e → footer_in object fields ≡ Err e
+unfolding footer_in
+unlocated object e fields is = rw is refl
+
+pub one_footer : TreesAreOne → (object : List ℕ) (fields others : FieldList) → IsTreeOf (located object) fields → IsTreeOf (located object) others → footer_in object fields ≡ footer_in object others
+one_footer one object fields others f o = by_bytes (located object) refl f o
+  where
+    by_bytes : (r : Result (List ℕ) FooterError) → located object ≡ r → IsTreeOf r fields → IsTreeOf r others → footer_in object fields ≡ footer_in object others
+    by_bytes (Ok bytes) is f o = ap (footer_in object) (one bytes fields others f.0 o.0 f.1 o.1)
+    by_bytes (Err e) is f o = unlocated object e fields is ∙ sym (unlocated object e others is)
+
+pub one_outcome : TreesAreOne → (object : List ℕ) (footer other : Result FooterView FooterError) → IsFooterOf object footer → IsFooterOf object other → footer ≡ other
+one_outcome one object footer other f o =
+    sym f.is ∙ one_footer one object f.fields o.fields f.tree o.tree ∙ o.is
+
+pub has_footer : (object : List ℕ) → HasFileTree object → HasFooter object
+has_footer object t = record {
+  footer = footer_in object t.fields;
+  is = record { fields = t.fields; tree = t.is; is = refl };
+}
+
+-- what was read stands for the file
+pub stands_for : (object : List ℕ) (r : Result FooterView FooterError) → HasFileTree object → ((fields : FieldList) → IsTreeOf (located object) fields → GivesFooter (footer_in object fields) r) → IfOk r (λ footer. IsFooterOf object (Ok footer))
+stands_for object (Ok footer) t gives = record { fields = t.fields; tree = t.is; is = gives t.fields t.is }
+stands_for object (Err e) t gives = tt

@@ -1,5 +1,5 @@
 -- Groups of the schema that are open, as a list whose innermost stands last.
-use Rattle.std.proofs.Common.{◌≡◌, ◌<◌, ℕ, suc, ◌+◌, ◌-◌, true, false, nat_eq, nat_lt, bytes_eq, ◌&&◌, if◌then◌else◌, List, [], ◌∷◌, ◌++◌, length, refl, ap, sym, ◌∙◌, append_assoc, append-nil, arith}
+use Rattle.std.proofs.Common.{◌≡◌, ◌<◌, ℕ, ◌-◌, true, false, nat_eq, nat_lt, bytes_eq, ◌&&◌, List, [], ◌∷◌, ◌++◌, length, refl, ap, sym, ◌∙◌, append_assoc, append-nil, arith}
 use Rattle.std.proofs.lemmas.Bool.{lt-ltb, le-ltb, ne_eqb}
 use Rattle.std.proofs.Math.Bool.{and-false, and-true}
 use Rattle.parquet_metadata.specs.declared.chunk.ColumnChunk.{ColumnChunk}

@@ -1,10 +1,10 @@
 -- A schema's elements make the same forest read from the back as they do walked from the front.
-use Rattle.std.proofs.Common.{◌≡◌, ◌≤◌, ◌<◌, ◌+◌, ◌-◌, ℕ, zero, suc, Bool, true, false, nat_eq, nat_lt, ◌&&◌, if◌then◌else◌, is_some, List, [], ◌∷◌, ◌++◌, length, Option, None, Some, refl, ap, sym, ◌∙◌, subst, arith, append_assoc, append-nil}
+use Rattle.std.proofs.Common.{◌≡◌, ◌<◌, ◌+◌, ◌-◌, ℕ, zero, suc, Bool, true, false, nat_eq, nat_lt, ◌&&◌, if◌then◌else◌, is_some, List, [], ◌∷◌, ◌++◌, length, Option, None, Some, refl, ap, sym, ◌∙◌, subst, arith, append_assoc, append-nil}
 use Rattle.std.proofs.lemmas.Bool.{lt-ltb, le-ltb, and_right, eq-eqb, ne_eqb}
 use Rattle.std.proofs.lemmas.Bool.Decides.{nat_tests}
 use Rattle.std.proofs.Math.Bool.{and-false}
 use Rattle.parquet_metadata.specs.declared.element.SchemaElement.{SchemaElement}
-use Rattle.parquet_footer.specs.Schema.{Node, Nodes, leaf_node, group_node, no_nodes, node, node_count, is_group, is_whole, behind_first, parted, with_children, before_nodes, forest_of, below_root, schema_of, count, flat_node, flat, IsCounted, AreCounted, IsSchema}
+use Rattle.parquet_footer.specs.Schema.{Nodes, leaf_node, group_node, no_nodes, node, node_count, is_whole, behind_first, parted, with_children, before_nodes, forest_of, below_root, schema_of, count, flat_node, flat, AreCounted}
 use Rattle.parquet_footer.specs.Walks.{is_forest}
 
 pub record IsParted (n : ℕ) (nodes : Nodes) (parts : Nodes × Nodes) : Type 0 where

@@ -1,7 +1,7 @@
 -- What the checks of the groups give of each footer.
-use Rattle.std.proofs.Common.{◌≡◌, ◌≤◌, ◌<◌, ◌+◌, ◌-◌, ℕ, zero, suc, ℤ, pos, negsuc, ◌+ℤ◌, int_lt, Bool, true, false, nat_le, nat_lt, not, ◌&&◌, ◌||◌, if◌then◌else◌, List, [], ◌∷◌, map, length, Option, None, Some, refl, ap, sym, ◌∙◌, inl, inr, arith}
-use Rattle.std.specs.List.{list_all, list_any, filter, slice_get}
-use Rattle.std.proofs.lemmas.Bool.{and_parts, or_parts, not-true, not-false, leb-true, ltb-false, ltb-true}
+use Rattle.std.proofs.Common.{◌≡◌, ◌≤◌, ◌<◌, ◌+◌, ℕ, zero, suc, ℤ, pos, negsuc, ◌+ℤ◌, int_lt, Bool, true, false, nat_le, not, if◌then◌else◌, List, [], ◌∷◌, map, length, Option, None, Some, refl, ap, arith}
+use Rattle.std.specs.List.{list_all, list_any, slice_get}
+use Rattle.std.proofs.lemmas.Bool.{and_parts, or_parts, not-true, leb-true, ltb-false, ltb-true}
 use Rattle.parquet_metadata.specs.declared.chunk.ColumnChunk.{ColumnChunk}
 use Rattle.parquet_metadata.specs.declared.group.RowGroup.{RowGroup}
 use Rattle.parquet_metadata.specs.declared.element.SchemaElement.{SchemaElement}
@@ -13,8 +13,8 @@ use Rattle.parquet_footer.specs.declared.group.Group.{Group}
 use Rattle.parquet_footer.specs.Numbers.{natural, is_negative}
 use Rattle.parquet_footer.specs.Schema.{Leaf}
 use Rattle.parquet_footer.specs.Groups.{chunk_start, chunk_negative, meta_negative, size_negative, group_negative, are_leaves, is_inside, is_placed, has_rows, kept, group_start, rises}
-use Rattle.parquet_footer.specs.Columns.{is_ordered, no_chunk, told_chunk, chunk_at, group_of, groups_of}
-use Rattle.parquet_footer.specs.Footers.{FooterView, are_in_order, no_group, group_or_none, group_at, chunk_or_none, chunk_in}
+use Rattle.parquet_footer.specs.Columns.{is_ordered, told_chunk, chunk_at, group_of}
+use Rattle.parquet_footer.specs.Footers.{are_in_order, group_or_none, chunk_or_none}
 use Rattle.parquet_footer.specs.FooterSound.{IsSound}
 use Rattle.parquet_footer.specs.Walks.{leaves_by, columns_by, leaf_number, walked_footer}
 

@@ -1,11 +1,11 @@
 -- A schema's tree is the one that its elements list.
-use Rattle.std.proofs.Common.{◌≡◌, ◌≤◌, ◌<◌, ◌+◌, ℕ, zero, suc, Bool, true, false, nat_lt, ◌&&◌, if◌then◌else◌, List, [], ◌∷◌, ◌++◌, length, Option, None, Some, refl, ap, sym, ◌∙◌, subst, arith, append_assoc, append-nil}
+use Rattle.std.proofs.Common.{◌≡◌, ◌<◌, ℕ, zero, suc, Bool, true, false, nat_lt, if◌then◌else◌, List, [], ◌∷◌, ◌++◌, Option, None, Some, refl, ap, sym, ◌∙◌, arith, append_assoc, append-nil}
 use Rattle.std.specs.List.{list_all}
 use Rattle.std.proofs.lemmas.Bool.{lt-ltb, le-ltb, and_parts}
 use Rattle.std.proofs.lemmas.List.Folds.{list_all-append}
 use Rattle.parquet_metadata.specs.declared.element.SchemaElement.{SchemaElement}
 use Rattle.parquet_footer.specs.Schema.{Node, Nodes, leaf_node, group_node, no_nodes, node, node_count, is_whole, behind_first, parted, with_children, before_nodes, forest_of, below_root, schema_of, count, flat_node, flat, IsCounted, AreCounted, IsSchema}
-use Rattle.parquet_footer.proofs.SchemaLaws.{IsRooted, rooted}
+use Rattle.parquet_footer.proofs.SchemaLaws.{rooted}
 
 -- ---- a tree's elements are whole
 
@@ -53,6 +53,7 @@ parted_all (node m nodes) rest (suc n) is =
 
 mutual
   unfolding forest_of
+
   node_read : (n : Node) (more : List SchemaElement) (rest : Nodes) → IsCounted n → list_all is_whole (flat_node n) ≡ true → forest_of more ≡ Some rest → forest_of (flat_node n ++ more) ≡ Some (node n rest)
   node_read (leaf_node e) more rest h w is =
       let whole : is_whole e ≡ true = (and_parts (is_whole e) true w).0 in
@@ -80,13 +81,13 @@ read_root : (root : SchemaElement) (nodes : Nodes) → is_whole root ≡ true �
 unfolding schema_of forest_of
 read_root root nodes whole all some counts h =
     let read : forest_of (flat nodes) ≡ Some nodes =
-      ap forest_of (sym (append-nil (flat nodes)))
-      ∙ nodes_read nodes [] no_nodes h all refl
-      ∙ ap (λ (n : Nodes). Some n) (before_none nodes)
+    ap forest_of (sym (append-nil (flat nodes)))
+    ∙ nodes_read nodes [] no_nodes h all refl
+    ∙ ap (λ (n : Nodes). Some n) (before_none nodes)
     in
     let more : nat_lt 0 (node_count root.children) ≡ true = lt-ltb 0 (node_count root.children) (omega (arith, some, counts)) in
     let taken : parted (node_count root.children) nodes ≡ Some (nodes, no_nodes) =
-      ap (parted (node_count root.children)) (sym (before_none nodes)) ∙ parted_all nodes no_nodes (node_count root.children) counts
+    ap (parted (node_count root.children)) (sym (before_none nodes)) ∙ parted_all nodes no_nodes (node_count root.children) counts
     in
     rw (whole, read, more, taken) refl
 

@@ -1,6 +1,6 @@
 -- The columns of a file, one for each child of the schema's root, and their chunks in the groups of at least one
 -- row. A column that is a group has no chunk of its own, and can't be read.
-use Rattle.std.specs.Prelude.{ℕ, ◌+◌, ℤ, pos, nat_eq, nat_lt, Bool, true, false, not, ◌&&◌, if◌then◌else◌, List, [], ◌∷◌, length, map, Option, None, Some}
+use Rattle.std.specs.Prelude.{ℕ, ◌+◌, ℤ, pos, nat_eq, Bool, true, false, not, ◌&&◌, if◌then◌else◌, List, [], ◌∷◌, length, map, Option, None, Some}
 use Rattle.std.specs.List.{list_any, slice_get}
 use Rattle.std.specs.Ordering.{int_eq}
 use Rattle.parquet_metadata.specs.declared.element.SchemaElement.{SchemaElement}
@@ -15,7 +15,7 @@ use Rattle.parquet_footer.specs.declared.column.Column.{Column}
 use Rattle.parquet_footer.specs.declared.group.Chunk.{Chunk}
 use Rattle.parquet_footer.specs.declared.group.Group.{Group}
 use Rattle.parquet_footer.specs.Numbers.{natural}
-use Rattle.parquet_footer.specs.Schema.{Node, Nodes, leaf_node, group_node, no_nodes, node, leaf_count}
+use Rattle.parquet_footer.specs.Schema.{Nodes, leaf_node, group_node, no_nodes, node, leaf_count}
 use Rattle.parquet_footer.specs.Groups.{has_rows, kept, chunk_start, group_start}
 
 -- a column is OPTIONAL (1)
@@ -55,6 +55,14 @@ group_column e = record {
   compressed = false;
   leaf = None;
 }
+
+-- a column can be read: its type is one of those that can, and no page of it is compressed
+abbrev pub is_supported : ColumnKind → Bool
+is_supported Unsupported = false
+is_supported _ = true
+
+abbrev pub is_readable : Column → Bool
+is_readable column = is_supported column.kind && not column.compressed
 
 -- the columns of nodes that stand behind so many leaves
 abbrev pub columns_of : List RowGroup → ℕ → Nodes → List Column

@@ -1,5 +1,5 @@
 -- What holds of each footer that was read.
-use Rattle.std.specs.Prelude.{◌≡◌, ◌≤◌, ◌<◌, ℕ, ◌+◌, List, length}
+use Rattle.std.specs.Prelude.{◌≡◌, ◌≤◌, ◌<◌, ℕ, ◌+◌, length}
 use Rattle.parquet_footer.specs.Footers.{FooterView, group_at, chunk_in}
 
 -- the groups' starts never fall, each group has a row and a chunk for each column, and the chunks lie in the file

@@ -1,13 +1,14 @@
 -- What a stored file's footer tells of its columns and groups of rows, or the first check that the file fails: those
 -- of its metadata, then the schema, the groups' places, and their order.
-use Rattle.std.specs.Prelude.{◌≡◌, ℕ, ◌+◌, ◌<◌, Bool, not, if◌then◌else◌, is_some, List, [], length, map, Option, None, Some, Result, Ok, Err}
+use Rattle.std.specs.Prelude.{◌≡◌, ℕ, Bool, not, if◌then◌else◌, List, [], length, map, Option, None, Some, Result, Ok, Err}
 use Rattle.std.specs.List.{list_all, slice_get}
 use Rattle.thrift_compact.specs.Trees.{FieldList}
 use Rattle.parquet_metadata.specs.declared.faults.FooterError.{FooterError}
 use Rattle.parquet_metadata.specs.declared.faults.FooterError.TheVariants.{Failed, OutOfMemory, BadSchema, BadPlaces, GroupsOutOfOrder}
 use Rattle.parquet_metadata.specs.declared.metadata.FileMetaData.{FileMetaData}
 use Rattle.parquet_metadata.specs.declared.file.PlacedMetadata.{PlacedMetadata}
-use Rattle.parquet_metadata.specs.Files.{file_of}
+use Rattle.parquet_metadata.specs.Layout.{located}
+use Rattle.parquet_metadata.specs.Files.{IsTreeOf, file_of}
 use Rattle.parquet_footer.specs.declared.column.Column.{Column}
 use Rattle.parquet_footer.specs.declared.group.Chunk.{Chunk}
 use Rattle.parquet_footer.specs.declared.group.Group.{Group}
@@ -53,6 +54,16 @@ checked_after size (Err e) = Err e
 -- the footer of a file whose footer's bytes have these fields
 unfoldable pub footer_in : List ℕ → FieldList → Result FooterView FooterError
 footer_in object fields = checked_after (length object) (file_of object fields)
+
+-- The footer of a file, or the first check that the file fails. Each list of bytes has one.
+pub record IsFooterOf (object : List ℕ) (footer : Result FooterView FooterError) : Type 0 where
+  pub fields : FieldList
+  pub tree : IsTreeOf (located object) fields
+  pub is : footer_in object fields ≡ footer
+
+pub record HasFooter (object : List ℕ) : Type 0 where
+  pub footer : Result FooterView FooterError
+  pub is : IsFooterOf object footer
 
 -- what reading it answers. A call that fails and want of memory may come at any time
 abbrev pub GivesFooter : Result FooterView FooterError → Result FooterView FooterError → Type 0

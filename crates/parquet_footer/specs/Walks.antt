@@ -1,6 +1,6 @@
 -- The schema's elements as they are walked from the front, without their tree. Each of these says the same of a
 -- schema's elements as its tree does.
-use Rattle.std.specs.Prelude.{◌≡◌, ℕ, zero, suc, ◌+◌, ◌-◌, nat_eq, nat_lt, Bool, true, false, not, ◌&&◌, if◌then◌else◌, List, [], ◌∷◌, ◌++◌, Result, Ok, Err}
+use Rattle.std.specs.Prelude.{◌≡◌, ℕ, ◌+◌, ◌-◌, nat_eq, nat_lt, Bool, true, false, not, ◌&&◌, if◌then◌else◌, List, [], ◌∷◌, ◌++◌, Result, Ok, Err}
 use Rattle.std.specs.List.{list_all}
 use Rattle.parquet_metadata.specs.declared.element.SchemaElement.{SchemaElement}
 use Rattle.parquet_metadata.specs.declared.group.RowGroup.{RowGroup}

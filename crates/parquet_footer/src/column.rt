@@ -2,7 +2,7 @@
 ghost use Rattle.std.specs.Prelude.{◌≡◌, ◌≤◌, ◌<◌, ◌+◌, ◌-◌, ◌^◌, ◌++◌, [], nat_eq, true, IfOk, OnOk};
 ghost use Rattle.std.specs.Str.{is_utf8};
 ghost use Rattle.std.specs.Option.{option_copied};
-ghost use Rattle.parquet_footer.specs.Columns.{is_optional, is_external, is_packed, in_some_group, leaf_column, group_column};
+ghost use Rattle.parquet_footer.specs.Columns.{is_supported, is_readable, is_optional, is_external, is_packed, in_some_group, leaf_column, group_column};
 ghost use Rattle.parquet_footer.specs.Schema.{node_count};
 ghost use Rattle.parquet_footer.specs.Walks.{AreTrees, leaf_one, column_at, column_before, columns_by};
 
@@ -24,6 +24,24 @@ pub struct Column {
     pub compressed: bool,
     /// The place of its chunks among those of each group, which a column that is a group has not.
     pub leaf: Option<usize>,
+}
+
+impl Column {
+    /// Whether the column can be read: its type is one of those that can, and no page of it is compressed.
+    pub fn is_readable(&self) -> bool
+        ensures { result ≡ is_readable self.now }
+    {
+        is_supported(self.kind) && !self.compressed
+    }
+}
+
+fn is_supported(kind: ColumnKind) -> bool
+    ensures { result ≡ is_supported kind }
+{
+    match kind {
+        ColumnKind::Unsupported => false,
+        _ => true,
+    }
 }
 
 /// The columns that these elements below the root list.

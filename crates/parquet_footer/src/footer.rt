@@ -1,11 +1,10 @@
 //! The footer.
-ghost use Rattle.std.specs.Prelude.{◌≡◌, ◌≤◌, ◌<◌, ◌+◌, ◌^◌, List, ℕ, length, IfOk, IfErr, OnOk};
+ghost use Rattle.std.specs.Prelude.{◌≡◌, ◌≤◌, ◌<◌, ◌+◌, ◌^◌, List, ℕ, length, IfOk, IfErr, Result, Ok};
 ghost use Rattle.select_ports.specs.Stored.{IsOpen};
 ghost use Rattle.select_ports.specs.Causes.{Rose};
-ghost use Rattle.thrift_compact.specs.Trees.{FieldList};
-ghost use Rattle.parquet_metadata.specs.Layout.{Tells, located};
-ghost use Rattle.parquet_metadata.specs.Files.{IsTreeOf, HasFileTree};
-ghost use Rattle.parquet_footer.specs.Footers.{checked, footer_in, GivesFooter, IsOfFile, group_at, chunk_in};
+ghost use Rattle.parquet_metadata.specs.declared.faults.FooterError.{FooterError};
+ghost use Rattle.parquet_metadata.specs.Layout.{Tells};
+ghost use Rattle.parquet_footer.specs.Footers.{FooterView, checked, IsFooterOf, GivesFooter, IsOfFile, group_at, chunk_in};
 ghost use Rattle.parquet_footer.specs.FooterSound.{IsSound};
 ghost use Rattle.std.specs.Option.{option_copied};
 ghost use Rattle.parquet_footer.specs.Walks.{AreTrees, walked, walked_footer};
@@ -52,9 +51,9 @@ impl Footer {
     /// twice, and memory is taken for the footer's bytes and for what was read of them alone.
     pub fn read<S: Store>(alloc: Global, store: &mut S, size: u64) -> Result<Footer, FooterError>
         requires object { IsOpen (S.current store.old) size }
-        ensures tree { (object : List ℕ) → Tells (S.current store.old) object → OnOk result (HasFileTree object) }
-        ensures told { (object : List ℕ) → Tells (S.current store.old) object → (fields : FieldList) → IsTreeOf (located object) fields
-            → GivesFooter (footer_in object fields) result }
+        ensures told { (object : List ℕ) → Tells (S.current store.old) object → (footer : Result FooterView FooterError) → IsFooterOf object footer
+            → GivesFooter footer result }
+        ensures stands { (object : List ℕ) → Tells (S.current store.old) object → IfOk result (λ footer. IsFooterOf object (Ok footer)) }
         ensures size { IfOk result (λ footer. footer.size ≡ size) }
         ensures sound { IfOk result IsSound }
         ensures failed { IfErr result (λ e. e ≡ FooterError.Failed → Rose (S.faults store.old) (S.faults store.new)) }

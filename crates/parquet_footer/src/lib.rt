@@ -16,6 +16,6 @@ pub use crate::bounds::Bounds;
 pub use crate::column::Column;
 pub use crate::footer::Footer;
 pub use crate::group::{Chunk, Group};
-pub use crate::laws::schemas_are_trees;
+pub use crate::laws::{file_has_a_footer, footers_are_one, schemas_are_trees};
 pub use crate::text_buf::TextBuf;
 pub use parquet_metadata::{ColumnKind, FooterError, Form, Width};

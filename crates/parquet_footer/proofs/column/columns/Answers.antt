@@ -1,6 +1,5 @@
-use Rattle.std.proofs.Common.{◌≡◌, ◌++◌, length, ap, sym, ◌∙◌, subst, arith}
-use Rattle.parquet_footer.specs.Walks.{columns_by}
-use Rattle.parquet_footer.proofs.ColumnLaws.{AreDue, Behind, behind_in, whole_name, columns_next}
+use Rattle.std.proofs.Common.{length, ap, sym, subst, arith}
+use Rattle.parquet_footer.proofs.ColumnLaws.{AreDue, behind_in, whole_name, columns_next}
 use Rattle.parquet_footer.proofs.column.columns.Goals as goal
 
 pub add_column-requires : goal.add_column-requires

@@ -1,4 +1,4 @@
-use Rattle.std.proofs.Common.{◌≡◌, ◌≤◌, [], ◌∷◌, ◌++◌, length}
+use Rattle.std.proofs.Common.{◌≡◌, [], ◌∷◌, ◌++◌, length}
 use Rattle.parquet_footer.specs.Groups.{same_path}
 use Rattle.parquet_footer.specs.Open.{names_of}
 use Rattle.parquet_footer.proofs.leaves.is_path.Given as goal
