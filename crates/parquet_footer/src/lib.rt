@@ -1,28 +1,21 @@
-//! The footer of a Parquet file: its columns and groups of rows, exactly as its bytes tell them, or its first
-//! fault.
+//! The footer of a Parquet file: its columns and groups of rows, exactly as the file's bytes tell them, or the
+//! first check that the file fails.
 #![tactic(auto)]
 
-mod chunk;
-mod element;
-mod faults;
-mod file;
+mod bounds;
+mod column;
+mod footer;
 mod group;
-mod kind;
-mod locate;
-mod logical;
-mod members;
-mod metadata;
-mod reading;
-mod statistics;
-mod structs;
-mod values;
+mod laws;
+mod leaves;
+mod places;
+mod schema;
+mod text_buf;
 
-pub use crate::chunk::{ColumnChunk, ColumnMetaData};
-pub use crate::element::SchemaElement;
-pub use crate::faults::{FooterError, ReadFault};
-pub use crate::file::read_file_metadata;
-pub use crate::group::RowGroup;
-pub use crate::kind::{ColumnKind, Form, Width};
-pub use crate::logical::{LogicalType, TimeUnit};
-pub use crate::metadata::{ColumnOrder, FileMetaData, read_metadata};
-pub use crate::statistics::Statistics;
+pub use crate::bounds::Bounds;
+pub use crate::column::Column;
+pub use crate::footer::Footer;
+pub use crate::group::{Chunk, Group};
+pub use crate::laws::{file_has_a_footer, footers_are_one, schemas_are_trees};
+pub use crate::text_buf::TextBuf;
+pub use parquet_metadata::{ColumnKind, FooterError, Form, Width};

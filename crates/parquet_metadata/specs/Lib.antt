@@ -1,0 +1,10 @@
+pub mod Reads
+pub mod Members
+pub mod ChunkStatistics
+pub mod Logical
+pub mod Elements
+pub mod Chunks
+pub mod FileData
+pub mod Kinds
+pub mod Layout
+pub mod Files
