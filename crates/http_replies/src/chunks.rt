@@ -8,6 +8,7 @@ use network_ports::Listen;
 use select_ports::{Failed, FrameSink};
 
 /// Sends each frame as a chunk at once.
+#[derive(Drop)]
 pub struct Chunks<'a, L: Listen> {
     pub link: &'a mut L,
     /// The room in which a chunk is put together.

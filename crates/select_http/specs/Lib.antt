@@ -1,0 +1,5 @@
+pub mod Messages
+pub mod Answers
+pub mod Exchanges
+pub mod Endings
+pub mod Turns
