@@ -1,1 +1,5 @@
+mod Progressing
 mod Sending
+mod Serving
+mod Turning
+mod Whole

@@ -1,7 +1,7 @@
 -- What was sent, in several calls.
-use Rattle.std.proofs.Common.{◌≡◌, ◌⊎◌, inl, inr, ℕ, List, [], ◌++◌, Option, None, Some, Result, Ok, Err, sym, ap, ◌∙◌, subst, append-nil}
-use Rattle.std.specs.Io.KnownBytes.{Appends, Keeps}
-use Rattle.std.proofs.KnownBytes.{Appends-trans, Appends-nil}
+use Rattle.std.proofs.Common.{inl, inr, ℕ, List, [], ◌++◌, Option, None, Some, Result, Ok, Err, subst, append-nil}
+use Rattle.std.specs.Io.KnownBytes.{Appends}
+use Rattle.std.proofs.KnownBytes.{Appends-trans}
 use Rattle.select_ports.specs.Stored.{Objects}
 use Rattle.select_ports.specs.Streams.{AddsAll, AppendsFront}
 use Rattle.select_ports.proofs.Told.{appends-front-after}

@@ -1,5 +1,5 @@
 -- What goes out on a connection for what came on it: the messages in turn, each with its reply.
-use Rattle.std.specs.Prelude.{◌≡◌, ◌⊎◌, ℕ, zero, suc, ◌<◌, Bool, true, List, [], ◌++◌, length, Option, None, Some, is_some, Result, Ok, Err}
+use Rattle.std.specs.Prelude.{◌≡◌, ◌⊎◌, ℕ, zero, suc, ◌<◌, true, List, [], ◌++◌, length, Option, None, is_some, Ok, Err}
 use Rattle.select_ports.specs.Stored.{Objects}
 use Rattle.select_ports.specs.Streams.{IsFront}
 use Rattle.httparse.specs.Grammar.{RequestHead, print_request}

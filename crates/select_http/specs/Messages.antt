@@ -1,6 +1,6 @@
 -- The messages of a connection (RFC 9112, section 2.1): a head, and the body whose length its fields give. What a head says of
 -- the reply.
-use Rattle.std.specs.Prelude.{◌≡◌, ℕ, ◌≤◌, ◌==◌, Bool, ◌&&◌, nat_lt, List, [], ◌++◌, length, if◌then◌else◌, Option, None, Some}
+use Rattle.std.specs.Prelude.{ℕ, ◌≤◌, ◌==◌, Bool, ◌&&◌, nat_lt, List, [], ◌++◌, length, if◌then◌else◌, Option, None, Some}
 use Rattle.httparse.specs.Grammar.{RequestHead, IsRequestHead, print_request}
 use Rattle.http_intake.specs.Bodies.{asks_close, expects_continue}
 use Rattle.http_intake.specs.Heads.{most_head}

@@ -1,5 +1,5 @@
 -- A connection while it is served, message by message.
-use Rattle.std.specs.Prelude.{◌≡◌, ℕ, suc, ◌≤◌, Bool, true, List, [], ◌++◌, length, Option, None, Some, Result, Ok, Err, IfErr, String, string_bytes}
+use Rattle.std.specs.Prelude.{◌≡◌, ℕ, ◌≤◌, true, List, ◌++◌, length, Option, None, Some, Result, Ok, Err, IfErr, String, string_bytes}
 use Rattle.select_ports.specs.Causes.{Rose}
 use Rattle.select_ports.specs.Stored.{Objects}
 use Rattle.network_ports.specs.Calls.{Link}
@@ -13,10 +13,10 @@ use Rattle.http_intake.specs.declared.halt.Halt.TheVariants as halt
 use Rattle.http_intake.specs.Bodies.{asks_close, body_length, expects_continue}
 use Rattle.http_intake.specs.Targets.{object_of}
 use Rattle.http_replies.specs.Chunks.{IsMarked}
-use Rattle.select_http.specs.Messages.{Message, spelled, IsShortHead, closing, interim_if}
+use Rattle.select_http.specs.Messages.{Message, spelled, IsShortHead, closing}
 use Rattle.select_http.specs.Answers.{refusal_reply}
 use Rattle.select_http.specs.Exchanges.{Exchanged, IsAnswered}
-use Rattle.select_http.specs.Endings.{Progress, EndsBy, HasCause, IsFresh}
+use Rattle.select_http.specs.Endings.{Progress, EndsBy, HasCause}
 use Rattle.select_http.specs.declared.served.End.{End}
 use Rattle.select_http.specs.declared.served.End.TheVariants.{PeerClosed, AskedClose, Refused, Counted, ReadFault, WriteFault, StoreFault, OutOfMemory}
 use Rattle.select_http.specs.declared.heading.Heading.{Heading}

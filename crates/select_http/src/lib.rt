@@ -4,7 +4,9 @@
 mod answer;
 mod chunked;
 mod heading;
+mod serve;
 mod served;
 mod turn;
 
+pub use serve::serve_connection;
 pub use served::{End, Served};

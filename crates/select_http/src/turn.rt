@@ -167,12 +167,14 @@ fn take_message<L: Listen, S: Store>(
         Ok(()) => {}
         Err(end) => return Err(end),
     }
-    if let Some(end) = closing {
-        return Err(end);
+    match closing {
+        Some(end) => Err(end),
+        None => {
+            intake.drop_front(heading.head + heading.body);
+            settle(link, intake.kept.len());
+            Ok(())
+        }
     }
-    intake.drop_front(heading.head + heading.body);
-    settle(link, intake.kept.len());
-    Ok(())
 }
 
 /// Takes the next message, and sends its answer. An `Err` ends the connection.

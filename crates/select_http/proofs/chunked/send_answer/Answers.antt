@@ -1,5 +1,3 @@
-use Rattle.std.proofs.Common.{ap}
-use Rattle.std.proofs.KnownBytes.{Appends-trans}
 use Rattle.select_ports.proofs.Told.{appends-front-after}
 use Rattle.select_http.proofs.Sending.{adds_then}
 use Rattle.select_http.proofs.chunked.send_answer.Goals as goal
