@@ -11,15 +11,6 @@ use Rattle.select_http.specs.declared.served.End.TheVariants.{OutOfMemory}
 use Rattle.select_http.specs.declared.served.Served.{Served}
 use Rattle.select_http.proofs.Progressing.{cause_before, progress_as, progress_same, progress_then, quiet_same, quiet_then}
 
-pub serving_begun : (longest : ℕ) (held : Option Objects) (a : Link) (kept : List ℕ) → kept ≡ [] → Serving longest held a a 0 kept
-serving_begun longest held a kept empty = record {
-  came = [];
-  wrote = [];
-  exchanged = (refl, refl);
-  progress = progress_as held a a _ _ _ _ (progress_same held a) (sym empty) refl;
-  quiet = quiet_same a;
-}
-
 one_more : (longest : ℕ) (held : Option Objects) (a b c : Link) (count : ℕ) (x y : List ℕ) → Serving longest held a b count x
     → Goes longest held b c (suc count) x y → Serving longest held a c (suc count) y
 one_more longest held a b c count x y s goes = record {
@@ -63,16 +54,6 @@ serves longest held a b c count sa sb sc x end served s stops is requests = reco
   progress = progress_as held a c _ _ _ _ (progress_then held a b c (s.came ++ x) stops.took s.wrote stops.sent s.progress stops.progress)
       (append_assoc s.came x stops.took) refl;
 }
-
-pub serving_cause : (longest : ℕ) (held : Option Objects) (a b c : Link) (count number sa sb sc : ℕ) (x : List ℕ) (end : End)
-    → Serving longest held a b count x → sa ≤ sb → Stops longest held b c number sb sc x end → HasCause a c sa sc end
-serving_cause longest held a b c count number sa sb sc x end s store stops =
-    cause_before a b c sa sb sc end s.quiet s.progress.write_faults store stops.cause
-
--- the last message closes the connection
-pub closes_last : (asks : Bool) → closing_if asks 100 ≡ None → ⊥
-closes_last true is = absurd cc
-closes_last false is = absurd cc
 
 -- there was no memory to begin with
 pub serves_none : (longest : ℕ) (held : Option Objects) (a : Link) → Serves longest held a a (record { requests = 0; end = OutOfMemory })
