@@ -1,3 +1,5 @@
+mod OneAnswer
+mod OneServing
 mod Progressing
 mod Sending
 mod Serving

@@ -1,15 +1,14 @@
 -- A connection, turn by turn.
-use Rattle.std.proofs.Common.{inl, ◌≡◌, ℕ, suc, ◌+◌, ◌≤◌, List, [], ◌++◌, Option, None, refl, sym, ap, ◌∙◌, subst, add-one, append_assoc}
-use Rattle.std.specs.Prelude.{Bool, true, false}
+use Rattle.std.proofs.Common.{inl, ◌≡◌, ℕ, suc, ◌+◌, List, [], ◌++◌, Option, refl, sym, ap, ◌∙◌, subst, add-one, append_assoc}
 use Rattle.select_ports.specs.Stored.{Objects}
 use Rattle.network_ports.specs.Calls.{Link}
-use Rattle.select_http.specs.Messages.{closing_if, spelled}
-use Rattle.select_http.specs.Endings.{requests_at, EndsBy, HasCause, Serves}
+use Rattle.select_http.specs.Messages.{spelled}
+use Rattle.select_http.specs.Endings.{requests_at, EndsBy, Serves}
 use Rattle.select_http.specs.Turns.{Goes, Serving, Stops}
 use Rattle.select_http.specs.declared.served.End.{End}
 use Rattle.select_http.specs.declared.served.End.TheVariants.{OutOfMemory}
 use Rattle.select_http.specs.declared.served.Served.{Served}
-use Rattle.select_http.proofs.Progressing.{cause_before, progress_as, progress_same, progress_then, quiet_same, quiet_then}
+use Rattle.select_http.proofs.Progressing.{progress_as, progress_same, progress_then, quiet_then}
 
 one_more : (longest : ℕ) (held : Option Objects) (a b c : Link) (count : ℕ) (x y : List ℕ) → Serving longest held a b count x
     → Goes longest held b c (suc count) x y → Serving longest held a c (suc count) y

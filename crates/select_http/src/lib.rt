@@ -4,9 +4,11 @@
 mod answer;
 mod chunked;
 mod heading;
+mod laws;
 mod serve;
 mod served;
 mod turn;
 
+pub use laws::connections_are_served_once;
 pub use serve::serve_connection;
 pub use served::{End, Served};
