@@ -10,7 +10,7 @@ use Rattle.http_intake.specs.Heads.{RefusesHead}
 use Rattle.http_intake.specs.declared.refusal.Refusal.{Refusal}
 use Rattle.http_intake.specs.declared.halt.Halt.{Halt}
 use Rattle.http_intake.specs.declared.halt.Halt.TheVariants.{Closed, Refused, ReadFault, OutOfMemory}
-use Rattle.http_intake.specs.Coming.{Came, IsWell, Comes, Ends, Halts}
+use Rattle.http_intake.specs.Coming.{Came, IsWell, Comes, Ends, Halts, HasNoHeadYet, LacksHead, LeavesKept}
 
 came_more : (a b c : Link) (xs ys : List ℕ) → Came a b xs → Came b c ys → Came a c (xs ++ ys)
 came_more a b c xs ys first second = record {
@@ -104,3 +104,10 @@ read_end old new n buffer kept none room read =
 -- what was written through a loan of all of a list
 pub lent_is : {A : Type 0} (n : ℕ) (written before : List A) → length written ≡ n → take n (written ++ drop (length written) before) ≡ written
 lent_is n written before size = ap (λ k. take k (written ++ drop (length written) before)) (sym size) ∙ take-append_seam written (drop (length written) before)
+
+-- a read that failed leaves no head where none was
+pub lacks_still : (x y z : List ℕ) (halt : Halt) → HasNoHeadYet x → y ≡ x → LeavesKept y z halt → LacksHead z halt
+lacks_still x y z Closed lacks same left = subst HasNoHeadYet (sym (left ∙ same)) lacks
+lacks_still x y z (Refused refusal) lacks same left = absurd left
+lacks_still x y z ReadFault lacks same left = subst HasNoHeadYet (sym (left ∙ same)) lacks
+lacks_still x y z OutOfMemory lacks same left = subst HasNoHeadYet (sym (left ∙ same)) lacks

@@ -1,9 +1,10 @@
 -- Bytes of the current connection that came, while nothing else befell it.
-use Rattle.std.specs.Prelude.{◌≡◌, ℕ, ◌++◌, true, List}
+use Rattle.std.specs.Prelude.{◌≡◌, ℕ, ◌<◌, ◌++◌, true, List, length}
 use Rattle.std.specs.Io.KnownBytes.{Appends, Consumes, IsAtEnd}
 use Rattle.select_ports.specs.Causes.{Rose}
 use Rattle.network_ports.specs.Calls.{Link}
-use Rattle.http_intake.specs.Heads.{RefusesHead}
+use Rattle.httparse.specs.Grammar.{HasNoRequest}
+use Rattle.http_intake.specs.Heads.{judged, most_head, RefusesHead}
 use Rattle.http_intake.specs.declared.halt.Halt.{Halt}
 use Rattle.http_intake.specs.declared.halt.Halt.TheVariants.{Closed, Refused, ReadFault, OutOfMemory}
 
@@ -61,6 +62,31 @@ Halts old new before now Closed = Ends old new before now
 Halts old new before now (Refused refusal) = Comes old new before now × RefusesHead now refusal
 Halts old new before now ReadFault = Fails old new before now
 Halts old new before now OutOfMemory = Loses old new
+
+-- a read that failed or gave nothing leaves what was kept, and refuses nothing
+abbrev pub LeavesKept : List ℕ → List ℕ → Halt → Type 0
+LeavesKept before now Closed = now ≡ before
+LeavesKept before now (Refused refusal) = ⊥
+LeavesKept before now ReadFault = now ≡ before
+LeavesKept before now OutOfMemory = now ≡ before
+
+-- no head stands in front, and one may still come
+abbrev pub HasNoHeadYet : List ℕ → Type 0
+HasNoHeadYet kept = (length kept < most_head) × HasNoRequest (judged kept)
+
+-- where no head was waited for to its end, none is there
+abbrev pub LacksHead : List ℕ → Halt → Type 0
+LacksHead kept Closed = HasNoHeadYet kept
+LacksHead kept (Refused refusal) = Unit {0}
+LacksHead kept ReadFault = HasNoHeadYet kept
+LacksHead kept OutOfMemory = HasNoHeadYet kept
+
+-- where a body wasn't waited for to its end, some of it is wanting. No body is refused
+abbrev pub LacksBody : ℕ → List ℕ → Halt → Type 0
+LacksBody len kept Closed = length kept < len
+LacksBody len kept (Refused refusal) = ⊥
+LacksBody len kept ReadFault = length kept < len
+LacksBody len kept OutOfMemory = length kept < len
 
 -- nothing was read
 pub record Rests (old new : Link) (before now : List ℕ) : Type 0 where

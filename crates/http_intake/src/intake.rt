@@ -2,7 +2,7 @@
 ghost use Rattle.std.specs.Prelude.{◌≡◌, ◌<◌, ◌≤◌, ℕ, List, [], drop, IfErr, IfOk, length, OnOk};
 ghost use Rattle.httparse.specs.Grammar.{ReadsRequest, RequestHead};
 ghost use Rattle.http_intake.specs.Heads.{judged, most_fields, HasHead, Looks};
-ghost use Rattle.http_intake.specs.Coming.{Comes, Halts, Rests};
+ghost use Rattle.http_intake.specs.Coming.{Comes, Halts, LacksBody, LacksHead, LeavesKept, Rests};
 
 use crate::look::{find_head, judged};
 use crate::{HEAD_LIMIT, Halt, Look, MOST_FIELDS, Refusal};
@@ -39,6 +39,7 @@ fn fill<L: Listen>(link: &mut L, piece: &mut [u8], kept: &mut Vec<u8>) -> Result
     ensures ok { OnOk result (Comes (L.seen link.old) (L.seen link.new) kept.old.items kept.new.items) }
     ensures more { OnOk result (length kept.old.items < length kept.new.items) }
     ensures err { IfErr result (Halts (L.seen link.old) (L.seen link.new) kept.old.items kept.new.items) }
+    ensures leaves { IfErr result (LeavesKept kept.old.items kept.new.items) }
 {
     let Ok(n) = link.read(piece) else {
         return Err(Halt::ReadFault);
@@ -88,6 +89,7 @@ impl Intake {
         ensures idle { (tree : RequestHead) (rest : List ℕ) → ReadsRequest (judged self.old.kept.items) tree rest
             → Rests (L.seen link.old) (L.seen link.new) self.old.kept.items self.new.kept.items }
         ensures err { IfErr result (Halts (L.seen link.old) (L.seen link.new) self.old.kept.items self.new.kept.items) }
+        ensures lacks { IfErr result (LacksHead self.new.kept.items) }
     {
         while self.kept.len() < HEAD_LIMIT {
             match self.look() {
@@ -114,6 +116,7 @@ impl Intake {
         ensures idle { len ≤ length self.old.kept.items
             → Rests (L.seen link.old) (L.seen link.new) self.old.kept.items self.new.kept.items }
         ensures err { IfErr result (Halts (L.seen link.old) (L.seen link.new) self.old.kept.items self.new.kept.items) }
+        ensures lacks { IfErr result (LacksBody len self.new.kept.items) }
     {
         while self.kept.len() < len {
             fill(link, self.piece.as_mut_slice(), &mut self.kept)?;

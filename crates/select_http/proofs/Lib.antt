@@ -1,0 +1,7 @@
+mod OneAnswer
+mod OneServing
+mod Progressing
+mod Sending
+mod Serving
+mod Turning
+mod Whole
