@@ -31,14 +31,18 @@ use Rattle.sql_grammar.specs.declared.tree.Name.{Name}
 use Rattle.sql_grammar.specs.declared.tree.Query.{Query}
 use Rattle.sql_grammar.specs.declared.tree.Selection.{Selection}
 use Rattle.sql_grammar.specs.declared.tree.Selection.TheVariants as selection
-use Rattle.line_window.specs.Cuts.{Cut, content}
-use Rattle.record_stream.specs.Lines.{Seen, Lines, IsWithoutTotals, behind, is_too_long, behind_cut, behind_all, end_of}
+use Rattle.line_window.specs.Cuts.{Cut}
+use Rattle.select_request.specs.declared.request.Output.{Output}
+use Rattle.scan_plan.specs.declared.plans.PlanItems.{PlanItems}
+use Rattle.scan_plan.specs.declared.plans.PlanItems.TheVariants as items
+use Rattle.sql_totals.specs.Partials.{Partial}
+use Rattle.record_stream.specs.Lines.{Lines, IsWithoutTotals}
 use Rattle.record_stream.specs.Selected.{lies_in, selected_cuts, yields}
 use Rattle.record_stream.specs.Tiling.{Ascend, ranges_from, all_yields, EachLineIsInOneTile, EachRangeSelects, EachTilingJoins}
 use Rattle.select_job.specs.Jobs.{Job}
 use Rattle.planned_lines.specs.declared.planned.Planned.{Planned}
 use Rattle.object_plan.specs.Columns.{columns_of}
-use Rattle.planned_lines.specs.LineYields.{lines_of, has_aggregates, PlannedLinesAreAlone}
+use Rattle.planned_lines.specs.LineYields.{lines_of, has_aggregates, totals_record, PlannedLinesAreAlone}
 use Rattle.select_job.specs.Jobs.{request_with, with_range}
 use Rattle.object_plan.specs.Planning.{bound_to, bound_in, planned_over}
 use Rattle.select_engine.specs.Answered.{answered_in, answered_by, answered_with, answered, ended, events_of}
@@ -95,28 +99,14 @@ second_of_two true b h = absurd cc
 neither : (a b : Bool) → a ≡ false → b ≡ false → (a || b) ≡ false
 neither a b h k = rw (h, k) refl
 
--- ---- without totals
+-- ---- without aggregates
 
-behind_alone : (lines : Lines) (place : ℕ) (bytes : List ℕ) → IsWithoutTotals lines → IsWithoutTotals (behind lines place bytes)
-behind_alone lines place bytes is =
-    let line : Seen = record { place = place; bytes = bytes } in
-    record {
-      alone = λ seen start content. is.alone (line ∷ seen) start content ∙ sym (is.alone (line ∷ []) start content);
-      ends = λ seen. is.ends (line ∷ seen);
-    }
-
-cut_alone : (lines : Lines) (longest : ℕ) (cut : Cut) → IsWithoutTotals lines → IsWithoutTotals (behind_cut lines longest cut)
-unfolding behind_cut
-cut_alone lines longest cut is =
-    (elim (is_too_long longest cut) as (λ b. IsWithoutTotals (if b then lines else behind lines cut.start (content cut))) [
-      | true ↦ is
-      | false ↦ behind_alone lines cut.start (content cut) is
-    ])
-
--- no record stands behind the last line
-none_behind : (lines : Lines) (longest : ℕ) → IsWithoutTotals lines → (cuts : List Cut) → end_of lines longest cuts ≡ None
-none_behind lines longest is [] = is.ends []
-none_behind lines longest is (cut ∷ cuts) = none_behind (behind_cut lines longest cut) longest (cut_alone lines longest cut is) cuts
+-- no record of totals stands behind the records
+no_totals_record : (selected : PlanItems) (names : List (List ℕ)) (output_ : Output) (longest : ℕ) (ts : List Partial)
+    → has_aggregates selected ≡ false → totals_record selected names output_ longest ts ≡ None
+no_totals_record items.All names output_ longest ts plain = refl
+no_totals_record (items.Rows bounds) names output_ longest ts plain = refl
+no_totals_record (items.Totals aggs) names output_ longest ts plain = absurd cc
 
 -- ---- a query that is bound, without a limit
 
@@ -170,7 +160,8 @@ module _ (longest : ℕ) (object : List ℕ) (job : Job) (format : LineFormat) (
 
 module _ (longest : ℕ) (object : List ℕ) (job : Job) (format : LineFormat) (p : Planned) (has_format : format_of job.request.input ≡ Some format)
     (is_planned : planned_over longest object job.request.input job.query ≡ Ok p) (selects : EachRangeSelects)
-    (alone : IsWithoutTotals (lines_of format p.columns p.plan job.request.output longest)) (unlimited : p.plan.limit ≡ None) where
+    (alone : IsWithoutTotals (lines_of format p.columns p.plan job.request.output longest)) (plain : has_aggregates p.plan.items ≡ false)
+    (unlimited : p.plan.limit ≡ None) where
   abbrev tile : ScanRange → List Yielded
   tile range = yields_in longest object job (Some range)
 
@@ -179,13 +170,12 @@ module _ (longest : ℕ) (object : List ℕ) (job : Job) (format : LineFormat) (
 
   answered_is : (range : Option ScanRange) → answered longest object (request_with job.request range) job.query ≡ Ok (processed None (yields_in longest object job range))
   answered_is range =
-      let lines = lines_of format p.columns p.plan job.request.output longest in
       let places = resolved range (length object) in
+      let records = in_places longest object job format p has_format is_planned places in
       ap (λ f. answered_in f longest object (request_with job.request range) job.query) has_format
       ∙ ap (answered_by format longest object (request_with job.request range)) is_planned
-      ∙ ap (λ t. Ok (answered_with p.plan.limit (in_places longest object job format p has_format is_planned places) t))
-      (none_behind lines longest alone (selected_cuts (line_delimiter format) object places))
-      ∙ ap (λ l. Ok (processed l (in_places longest object job format p has_format is_planned places))) unlimited
+      ∙ ap (λ t. Ok (answered_with p.plan.limit records t)) (no_totals_record p.plan.items p.plan.names job.request.output longest _ plain)
+      ∙ ap (λ l. Ok (processed l records)) unlimited
       ∙ ap (λ ys. Ok (processed None ys)) (sym (yields_are longest object job format p has_format is_planned range))
 
   payload_is : (range : Option ScanRange) → payload_of longest object (Asks (with_range job range)) ≡ carried_by job.request.progress (yields_in longest object job range)
@@ -422,7 +412,7 @@ module _ (once : EachLineIsInOneTile) (selects : EachRangeSelects) (joins : Each
         lines = in_tiles;
         records = λ rows. records_are longest object job format p has_format is (tile_ranges 0 cuts) ∙ whole rows;
         joined = λ rows unlimited.
-            joins_whole longest object job format p has_format is selects (alone rows) (of.limit ∙ unlimited) join fails_too cuts (whole rows);
+            joins_whole longest object job format p has_format is selects (alone rows) (of.totals ∙ rows) (of.limit ∙ unlimited) join fails_too cuts (whole rows);
       }
   by_plan format has_format (Err code) is =
       fails_alike longest object job cuts code in_tiles
