@@ -4,6 +4,7 @@
 
 use case_tables::{Row, Tell, part, rows, show, tell_tables};
 use event_frame::crc32;
+use http_asking::request_text;
 use network_ports::{Dial, Listen, MemConnection, MemListen, TcpDial, TcpListen};
 use select_http::{Served, serve_connection};
 use select_ports::{Limits, MemObject, MemStore};
@@ -147,11 +148,23 @@ fn tell_sockets<R: Net + AllocGlobal>(rt: &R, request: &Row) -> Result<String, F
     Ok(told)
 }
 
+/// The request of a client, for a name and a body.
+fn tell_asked(alloc: Global, asked: &Row) -> Result<String, Fail> {
+    let request = request_text(alloc, asked.text(0)?, asked.bytes(1)?)?;
+    let mut told = String::new(alloc);
+    show(&mut told, request.as_slice())?;
+    Ok(told)
+}
+
 fn main(rt: HostRuntime) -> Result<(), Fail> {
     tell_tables(&rt, &[("exchanges.tsv", Exchange)])?;
     for request in rows(&rt, "sockets.tsv")?.iter() {
         let told = tell_sockets(&rt, request)?;
         println!(rt; "sockets.tsv:{}: {told}", request.line)?;
+    }
+    for asked in rows(&rt, "asked.tsv")?.iter() {
+        let told = tell_asked(rt.alloc(), asked)?;
+        println!(rt; "asked.tsv:{}: {told}", asked.line)?;
     }
     Ok(())
 }
