@@ -2,12 +2,14 @@
 //! is a row of a table in data/, and what comes of it is a line of stdout.
 #![tactic(auto)]
 
-use case_tables::{Row, Tell, part, show, tell_tables};
+use case_tables::{Row, Tell, part, rows, show, tell_tables};
 use event_frame::crc32;
-use network_ports::{Listen, MemConnection, MemListen};
+use http_asking::request_text;
+use network_ports::{Dial, Listen, MemConnection, MemListen, TcpDial, TcpListen};
 use select_http::{Served, serve_connection};
 use select_ports::{Limits, MemObject, MemStore};
 use std::alloc::Global;
+use std::net::{Net, OpenListener, TcpListener};
 use std::rt::Files;
 use std::test::Fail;
 
@@ -99,6 +101,70 @@ fn store_of(alloc: Global, row: &Row) -> Result<MemStore, Fail> {
     Ok(MemStore::new(objects, Vec::new(alloc), fails))
 }
 
+/// A port that nobody listens at.
+fn free_port<R: Net>(rt: &R) -> Result<u16, Fail> {
+    let listener = TcpListener::bind(rt, "127.0.0.1:0")?;
+    Ok(listener.local_addr()?.port())
+}
+
+/// The bytes that come, until so many are there or no more come.
+fn read_all<R: Net>(alloc: Global, peer: &mut TcpDial<R>, enough: usize) -> Result<Vec<u8>, Fail> {
+    let mut all = Vec::new(alloc);
+    let mut piece = [0; 1_024];
+    for _ in 0..1_000 {
+        if all.len() >= enough {
+            return Ok(all);
+        }
+        let Ok(n) = peer.read(&mut piece) else {
+            return Ok(all);
+        };
+        if n == 0 {
+            return Ok(all);
+        }
+        all.extend_from_slice(&piece[..n])?;
+    }
+    Ok(all)
+}
+
+/// Both sides in one thread: the system takes the connection and the request before `next` does.
+fn tell_sockets<R: Net + AllocGlobal>(rt: &R, request: &Row) -> Result<String, Fail> {
+    let alloc = rt.alloc();
+    let mut told = String::new(alloc);
+    let address = format!(in alloc; "127.0.0.1:{}", free_port(rt)?)?;
+    let mut link = TcpListen::new(rt, address.as_str());
+    let mut peer = TcpDial::new(rt, address.as_str());
+    let mut store = store_of(alloc, request)?;
+    if peer.dial().is_err() || link.next().is_err() {
+        return Err(Fail::new("no connection"));
+    }
+    if peer.write(request.joined(alloc, 3)?.as_slice()).is_err() {
+        return Err(Fail::new("no write"));
+    }
+    let limits = Limits { longest: 1_048_576 };
+    let served = serve_connection(alloc, &mut link, &mut store, limits);
+    write!(told, "{} {:?}", served.requests, served.end)?;
+    let reply = read_all(alloc, &mut peer, request.number(0)? as usize)?;
+    tell_written(&mut told, reply.as_slice())?;
+    Ok(told)
+}
+
+/// The request of a client, for a name and a body.
+fn tell_asked(alloc: Global, asked: &Row) -> Result<String, Fail> {
+    let request = request_text(alloc, asked.text(0)?, asked.bytes(1)?)?;
+    let mut told = String::new(alloc);
+    show(&mut told, request.as_slice())?;
+    Ok(told)
+}
+
 fn main(rt: HostRuntime) -> Result<(), Fail> {
-    tell_tables(&rt, &[("exchanges.tsv", Exchange)])
+    tell_tables(&rt, &[("exchanges.tsv", Exchange)])?;
+    for request in rows(&rt, "sockets.tsv")?.iter() {
+        let told = tell_sockets(&rt, request)?;
+        println!(rt; "sockets.tsv:{}: {told}", request.line)?;
+    }
+    for asked in rows(&rt, "asked.tsv")?.iter() {
+        let told = tell_asked(rt.alloc(), asked)?;
+        println!(rt; "asked.tsv:{}: {told}", asked.line)?;
+    }
+    Ok(())
 }
