@@ -11,7 +11,7 @@ use std::alloc::Global;
 use std::rt::Files;
 use std::test::Fail;
 
-/// A row: the most bytes of a read, and the bytes of the file.
+/// A row: the most bytes of a read, the number of the call that fails or 0, and the bytes of the file.
 struct File;
 
 impl Tell for File {
@@ -36,9 +36,10 @@ fn store_of(alloc: Global, row: &Row) -> Result<MemStore, Fail> {
         return Err(Fail::new("no length"));
     }
     let name = String::from_str(alloc, "f")?;
-    let bytes = row.joined(alloc, 1)?;
+    let bytes = row.joined(alloc, 2)?;
     let objects = vec![in alloc; MemObject { name, bytes }]?;
-    Ok(MemStore::new(objects, vec![in alloc; most]?, Vec::new(alloc)))
+    let fails = vec![in alloc; row.number(1)?]?;
+    Ok(MemStore::new(objects, vec![in alloc; most]?, fails))
 }
 
 fn tell_error(told: &mut String, error: FooterError) -> Result<(), Fail> {

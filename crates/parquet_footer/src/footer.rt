@@ -3,7 +3,7 @@ ghost use Rattle.std.specs.Prelude.{◌≡◌, ◌≤◌, ◌<◌, ◌+◌, ◌^
 ghost use Rattle.select_ports.specs.Stored.{IsOpen};
 ghost use Rattle.select_ports.specs.Causes.{Rose};
 ghost use Rattle.parquet_metadata.specs.declared.faults.FooterError.{FooterError};
-ghost use Rattle.parquet_metadata.specs.Layout.{Tells};
+ghost use Rattle.parquet_metadata.specs.Layout.{Tells, footer_length};
 ghost use Rattle.parquet_footer.specs.Footers.{FooterView, checked, IsFooterOf, GivesFooter, IsOfFile, group_at, chunk_in};
 ghost use Rattle.parquet_footer.specs.FooterSound.{IsSound};
 ghost use Rattle.std.specs.Option.{option_copied};
@@ -58,6 +58,7 @@ impl Footer {
         ensures sound { IfOk result IsSound }
         ensures failed { IfErr result (λ e. e ≡ FooterError.Failed → Rose (S.faults store.old) (S.faults store.new)) }
         ensures faults { S.faults store.old ≤ S.faults store.new }
+        ensures bytes { (object : List ℕ) → Tells (S.current store.old) object → S.taken store.new ≤ S.taken store.old + 12 + footer_length object }
         ensures taken { S.taken store.new ≤ S.taken store.old + size }
         ensures held { S.held store.new ≡ S.held store.old }
         ensures current { S.current store.new ≡ S.current store.old }

@@ -4,9 +4,9 @@ use Rattle.std.proofs.lemmas.Bool.{le-ltb, lt-ltb}
 use Rattle.select_ports.specs.Stored.{Opened, IsOpen}
 use Rattle.parquet_metadata.specs.declared.faults.FooterError.{FooterError}
 use Rattle.parquet_metadata.specs.declared.faults.FooterError.TheVariants.{Failed, OutOfMemory, NotParquet, FooterTooLarge, BadFooter, BadSchema, BadPlaces, GroupsOutOfOrder}
-use Rattle.parquet_metadata.specs.Layout.{told_length, ends_in, Tells, TellsLength, located, Locates, IsWant}
+use Rattle.parquet_metadata.specs.Layout.{told_length, ends_in, Tells, TellsLength, located, Locates, IsWant, length_of, footer_length}
 use Rattle.std.proofs.Math.Seq.{take-add}
-use Rattle.std.proofs.lemmas.List.{drop-drop}
+use Rattle.std.proofs.lemmas.List.{drop-drop, length-take, length-drop}
 
 -- a longer front of the buffer is the object's
 pub front_grows : (buffer before object : List ℕ) (at done n : ℕ) → take done buffer ≡ take done before → take done before ≡ take done (drop at object) → take n (drop done buffer) ≡ take n (drop (at + done) object) → take (done + n) buffer ≡ take (done + n) (drop at object)
@@ -75,3 +75,10 @@ located_by object (Ok bytes) len size t size_is small room bytes_are only = loca
 located_by object (Err Failed) len size t size_is small room bytes_are only = tt
 located_by object (Err OutOfMemory) len size t size_is small room bytes_are only = tt
 located_by object (Err _) len size t size_is small room bytes_are only = absurd only
+
+-- the footer is as long as the file tells
+pub long_as_told : (object : List ℕ) (len size : ℕ) → told_length object ≡ Ok len → length object ≡ size → 12 ≤ size → len ≤ 16777216 → len ≤ size - 12 → footer_length object ≡ len
+long_as_told object len size t size_is enough small room =
+    let bytes : List ℕ = take len (drop (size - 8 - len) object) in
+    ap length_of (located_here object bytes len size t size_is small room refl)
+    ∙ omega (arith, length-take len (drop (size - 8 - len) object), length-drop (size - 8 - len) object, size_is)

@@ -72,3 +72,11 @@ abbrev pub IsWant : FooterError → Type 0
 IsWant Failed = Unit {0}
 IsWant OutOfMemory = Unit {0}
 IsWant _ = ⊥
+
+-- how many bytes the footer has, where the file has one
+abbrev pub length_of : Result (List ℕ) FooterError → ℕ
+length_of (Ok bytes) = length bytes
+length_of (Err e) = 0
+
+abbrev pub footer_length : List ℕ → ℕ
+footer_length object = length_of (located object)

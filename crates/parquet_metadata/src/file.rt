@@ -3,7 +3,7 @@ ghost use Rattle.std.specs.Prelude.{◌≡◌, ◌≤◌, ◌+◌, List, ℕ, If
 ghost use Rattle.select_ports.specs.Stored.{IsOpen};
 ghost use Rattle.select_ports.specs.Causes.{Rose};
 ghost use Rattle.thrift_compact.specs.Trees.{FieldList};
-ghost use Rattle.parquet_metadata.specs.Layout.{Tells, located};
+ghost use Rattle.parquet_metadata.specs.Layout.{Tells, located, footer_length};
 ghost use Rattle.parquet_metadata.specs.Files.{IsTreeOf, file_of, error_at, FitsBehind, GivesFile, HasFileTree};
 
 use crate::faults::{FooterError, ReadFault};
@@ -37,6 +37,7 @@ pub fn read_file_metadata<S: Store>(
     ensures within { IfOk result (λ file. file.place ≤ size) }
     ensures failed { IfErr result (λ e. e ≡ FooterError.Failed → Rose (S.faults store.old) (S.faults store.new)) }
     ensures faults { S.faults store.old ≤ S.faults store.new }
+    ensures bytes { (object : List ℕ) → Tells (S.current store.old) object → S.taken store.new ≤ S.taken store.old + 12 + footer_length object }
     ensures taken { S.taken store.new ≤ S.taken store.old + size }
     ensures held { S.held store.new ≡ S.held store.old }
     ensures current { S.current store.new ≡ S.current store.old }

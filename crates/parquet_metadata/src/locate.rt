@@ -2,7 +2,7 @@
 ghost use Rattle.std.specs.Prelude.{◌≡◌, ◌≤◌, ◌+◌, ◌-◌, ◌<◌, List, ℕ, length, take, drop, IfOk, IfErr, Ok, Err, ◌&&◌, bytes_eq};
 ghost use Rattle.select_ports.specs.Stored.{IsOpen};
 ghost use Rattle.select_ports.specs.Causes.{Rose, HasCause};
-ghost use Rattle.parquet_metadata.specs.Layout.{Tells, mark, little, ends_in, told_length, TellsLength, located, Locates, IsWant};
+ghost use Rattle.parquet_metadata.specs.Layout.{Tells, mark, little, ends_in, told_length, TellsLength, located, Locates, IsWant, footer_length};
 
 use crate::faults::FooterError;
 use crate::reading::read_exact;
@@ -29,6 +29,7 @@ pub(crate) fn read_footer_bytes<S: Store>(
     ensures room { IfOk result (λ bytes. length bytes + 12 ≤ size) }
     ensures failed { IfErr result (λ e. e ≡ FooterError.Failed → Rose (S.faults store.old) (S.faults store.new)) }
     ensures faults { S.faults store.old ≤ S.faults store.new }
+    ensures bytes { (object : List ℕ) → Tells (S.current store.old) object → S.taken store.new ≤ S.taken store.old + 12 + footer_length object }
     ensures taken { S.taken store.new ≤ S.taken store.old + size }
     ensures held { S.held store.new ≡ S.held store.old }
     ensures current { S.current store.new ≡ S.current store.old }
@@ -85,7 +86,7 @@ fn read_ends<S: Store>(store: &mut S, size: u64) -> Result<u32, FooterError>
     ensures failed { IfErr result (λ e. e ≡ FooterError.Failed → Rose (S.faults store.old) (S.faults store.new)) }
     ensures faults { S.faults store.old ≤ S.faults store.new }
     ensures taken { S.taken store.new ≤ S.taken store.old + size }
-    ensures few { IfOk result (λ _. S.taken store.new ≤ S.taken store.old + 12) }
+    ensures few { S.taken store.new ≤ S.taken store.old + 12 }
     ensures held { S.held store.new ≡ S.held store.old }
     ensures current { S.current store.new ≡ S.current store.old }
     ensures absent { S.absent store.new ≡ S.absent store.old }

@@ -1,5 +1,5 @@
 use Rattle.std.proofs.Common.{◌∙◌, Ok, ap, sym, arith}
-use Rattle.parquet_metadata.proofs.ReadLemmas.{size_of, located_fault, located_large, located_long, located_by}
+use Rattle.parquet_metadata.proofs.ReadLemmas.{size_of, located_fault, located_large, located_long, located_by, long_as_told}
 use Rattle.parquet_metadata.proofs.locate.read_footer_bytes.Goals as goal
 
 pub returns-in-Err-clause-told : goal.returns-in-Err-clause-told
@@ -17,3 +17,9 @@ returns-then-len-size-clause-told g c =
 pub returns-clause-told : goal.returns-clause-told
 returns-clause-told g c =
     λ object tells. located_by object c.read_items.result c.from-len.result c.args.size (c.in-Ok.ensures.told object tells ∙ ap (λ n. Ok n) (sym c.from-len.ensures)) (size_of _ object c.args.size c.requires.object tells) (omega arith) (omega arith) (c.read_items.ensures.told object (c.in-Ok.ensures.current ∙ tells)) c.read_items.ensures.only
+
+pub returns-clause-bytes : goal.returns-clause-bytes
+returns-clause-bytes g c =
+    λ object tells.
+    let len = long_as_told object c.from-len.result c.args.size (c.in-Ok.ensures.told object tells ∙ ap (λ n. Ok n) (sym c.from-len.ensures)) (size_of _ object c.args.size c.requires.object tells) (omega (arith, c.in-Ok.ensures.size)) (omega arith) (omega arith) in
+    omega (arith, len)
