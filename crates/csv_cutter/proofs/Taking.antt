@@ -89,6 +89,12 @@ look_on opened d old v w x s n t m look before between now p l = record {
 
 -- ---- the answered record is passed
 
+not_passed : (q : Pending) (n : ℕ) → q ≡ Passed n → q ≡ Nothing → ⊥
+not_passed q n is none = absurd (cc)
+
+not_rest : (q : Pending) (s : State) (n : ℕ) → q ≡ Rest s n → q ≡ Nothing → ⊥
+not_rest q s n is none = absurd (cc)
+
 pub settle_none : (opened : Opened) (cutter : QuotedRecords) (v : View) (before : ℕ) → IsSound v → IsReady cutter v → cutter.pending ≡ Nothing → Settles opened cutter cutter v v (Ok tt) before before
 settle_none opened cutter v before s r p = record {
   moves = (stays_none opened v before s).moves;
@@ -98,6 +104,7 @@ settle_none opened cutter v before s r p = record {
   works = λ _. refl;
   settled = λ _. p;
   onwards = λ _. omega (arith, ap pending_len p);
+  stays = λ _. refl;
   told = λ object t h cuts l. l;
 }
 
@@ -111,6 +118,7 @@ settle_passed opened cutter later old new n before s r p passes d l none = recor
   works = λ _. passes.failed;
   settled = λ _. none;
   onwards = λ _. omega (arith, passes.place, ap pending_len p);
+  stays = λ none. absurd (not_passed cutter.pending n p none);
   told = λ object t h cuts left.
       let before_it : AreRecords cutter.dialect object (old.place + n) cuts = records_at cutter.dialect object _ _ cuts (ap (λ q. next_start cutter.dialect q object old.place) p) left in
       let same : old.place + n ≡ next_start later.dialect later.pending object new.place = sym passes.place ∙ ap (λ q. next_start later.dialect q object new.place) (sym none) in
@@ -141,6 +149,7 @@ settle_rest opened cutter later old v w x new s n t m k before between now p pas
       works = λ _. passes.failed ∙ fine ∙ works_same old.failed works;
       settled = λ _. none;
       onwards = λ _. omega (arith, p.passing.onwards, p.passes.place, p.looks.place, passes.place, ap pending_len pending);
+      stays = λ none. absurd (not_rest cutter.pending s n pending none);
       told = λ object told holds cuts left.
           let width = length (delimiter_of cutter.dialect) in
           let start : next_start cutter.dialect cutter.pending object old.place ≡ x.place + 0 + stop_from cutter.dialect t (drop (x.place + 0) object) + width =
@@ -175,6 +184,7 @@ settle_failed opened cutter later old v w x s n t m before between now failed p 
       works = λ e. absurd (clash (sym e));
       settled = λ e. absurd (clash (sym e));
       onwards = λ e. absurd (clash (sym e));
+      stays = λ none. absurd (not_rest cutter.pending s n pending none);
       told = λ object told holds cuts left.
           let width = length (delimiter_of cutter.dialect) in
           let start : next_start cutter.dialect cutter.pending object old.place ≡ x.place + 0 + stop_from cutter.dialect t (drop (x.place + 0) object) + width =
@@ -222,6 +232,7 @@ found_next opened cutter later old mid new result before between now s stays fai
   failed = failed;
   settled = λ _. s.settled refl;
   onwards = λ _. omega (arith, s.onwards refl, stays.place);
+  stays = λ none. stays.place ∙ s.stays none;
   found = by_found result found;
   told = λ object t h cuts l.
       let here = settled_records later object mid cuts (s.settled refl) (s.told object t h cuts l) in
@@ -248,6 +259,7 @@ took_end opened cutter later old new before now f = record {
   failed = f.failed;
   place = f.found;
   onwards = tt;
+  stays = f.stays;
   told = λ object t h cuts l.
       let here = settled_records later object new cuts (f.settled refl) (f.told object t h cuts l) in
       let size : length object ≤ new.place = omega (arith, (f.moves.told object t h).size, f.found) in
@@ -293,6 +305,7 @@ took_long opened cutter found later old new state n start before now valid f s d
   failed = f.failed;
   place = s;
   onwards = omega (arith, f.onwards refl, f.found.2, ap pending_len p);
+  stays = f.stays;
   told = λ object t h cuts left.
       let here = f.moves.told object t h in
       let there = settled_records found object new cuts (f.settled refl) (f.told object t h cuts left) in
@@ -344,6 +357,7 @@ took_record opened cutter found later old mid new len behind result before betwe
   failed = lends.failed;
   place = lends.place;
   onwards = further result (lends.passed);
+  stays = λ none. lends.stays.place ∙ f.stays none;
   told = λ object t h cuts left. by_result result (lends.passed) (lends.unpassed) object t h cuts left (lends.told object t (f.moves.told object t h));
 }
   where

@@ -67,6 +67,7 @@ pub record TakesRecord (opened : Opened) (cutter later : QuotedRecords) (old new
   pub failed : new.failed ≡ is_err result
   pub place : StandsThere new result
   pub onwards : GoesFurther cutter later old new result
+  pub stays : cutter.pending ≡ Nothing → new.place ≡ old.place
   pub told : (object : List ℕ) → Tells opened object → Holds object old
       → (cuts : List Cut) → Left cutter object old cuts → GoesOn later object new old.longest cuts result
 
@@ -89,6 +90,7 @@ pub record Settles (opened : Opened) (cutter later : QuotedRecords) (old new : V
   pub works : IsOk result → new.failed ≡ old.failed
   pub settled : IsOk result → later.pending ≡ Nothing
   pub onwards : IsOk result → old.place + pending_len cutter.pending ≤ new.place
+  pub stays : cutter.pending ≡ Nothing → new.place ≡ old.place
   pub told : (object : List ℕ) → Tells opened object → Holds object old → (cuts : List Cut) → Left cutter object old cuts → Left later object new cuts
 
 -- a line with this content and whole length at the window's place
@@ -131,6 +133,7 @@ pub record FindsNext (opened : Opened) (cutter later : QuotedRecords) (old new :
   pub failed : new.failed ≡ is_err result
   pub settled : IsOk result → later.pending ≡ Nothing
   pub onwards : IsOk result → old.place + pending_len cutter.pending ≤ new.place
+  pub stays : cutter.pending ≡ Nothing → new.place ≡ old.place
   pub found : IfOk result (Finds later.dialect new)
   pub told : (object : List ℕ) → Tells opened object → Holds object old → (cuts : List Cut) → Left cutter object old cuts → Left later object new cuts
   pub shows : (object : List ℕ) → Tells opened object → Holds object old → IfOk result (ShowsFound later.dialect object new)
