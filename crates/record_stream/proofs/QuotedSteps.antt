@@ -1,10 +1,9 @@
 -- A cutter of quoted records and its window from one record to the next.
-use Rattle.std.proofs.Common.{◌≡◌, ℕ, ◌+◌, ◌-◌, ◌^◌, ◌<◌, ◌≤◌, min, true, List, [], ◌∷◌, length, drop, Option, None, Some, Result, Ok, Err, refl, sym, ap, ◌∙◌, subst, arith}
+use Rattle.std.proofs.Common.{◌≡◌, ℕ, ◌+◌, ◌-◌, ◌^◌, ◌<◌, ◌≤◌, min, true, List, [], ◌∷◌, length, drop, Option, None, Some, Result, Ok, Err, sym, ap, ◌∙◌, subst, arith}
 use Rattle.select_ports.specs.Stored.{Opened}
 use Rattle.select_ports.specs.declared.outcome.Failed.{Failed}
 use Rattle.line_window.specs.Cuts.{Cut}
 use Rattle.line_window.specs.Sliding.{View, Tells, Holds, IsSound}
-use Rattle.line_window.specs.Answers.{IsNext, IsNextCut}
 use Rattle.line_window.specs.declared.line.Line.{Line}
 use Rattle.line_window.specs.declared.line.Line.TheVariants.{At, TooLong, End}
 use Rattle.csv_cutter.specs.declared.dialect.Dialect.{Dialect}
@@ -13,7 +12,7 @@ use Rattle.csv_cutter.specs.declared.records.Pending.TheVariants.{Nothing, Passe
 use Rattle.csv_cutter.specs.declared.records.QuotedRecords.{QuotedRecords}
 use Rattle.csv_cutter.specs.Dialects.{is_valid}
 use Rattle.csv_cutter.specs.Records.{AreRecords, delimiter_of}
-use Rattle.csv_cutter.specs.Stops.{cut_of, body_len}
+use Rattle.csv_cutter.specs.Stops.{body_len}
 use Rattle.csv_cutter.specs.Cutter.{pending_len, next_start, Left, IsBegun, IsReady, GoesFurther, GoesOn, TakesRecord}
 use Rattle.csv_cutter.specs.Cuttings.{quoted_from, quoted_cuts}
 use Rattle.csv_cutter.proofs.Characters.{apart, delimits}

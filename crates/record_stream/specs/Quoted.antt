@@ -2,7 +2,7 @@
 use Rattle.std.specs.Prelude.{ℕ, List}
 use Rattle.csv_cutter.specs.declared.dialect.Dialect.{Dialect}
 use Rattle.csv_cutter.specs.Cuttings.{quoted_cuts}
-use Rattle.select_reply.specs.Yields.{Yield, Yielded}
+use Rattle.select_reply.specs.Yields.{Yielded}
 use Rattle.record_stream.specs.Lines.{Lines, yields_of, records_of}
 
 -- what the object's records yield, one after the other, under a record limit
