@@ -9,7 +9,9 @@ mod outcome;
 mod quoted;
 mod stream;
 
-pub use laws::{tiles_have_each_record_once, unread_records_are_late};
+pub use laws::{
+    tiles_have_each_record_once, unread_quoted_records_are_late, unread_records_are_late,
+};
 pub use lines::{LineYields, answer_end, answer_yield};
 pub use outcome::StreamError;
 pub use quoted::answer_quoted;

@@ -155,7 +155,10 @@ pub(crate) fn end_lines<K: FrameSink, Y: LineYields>(
 }
 
 // Ends a reply that allows no output.
-pub(crate) fn answer_none<K: FrameSink>(reply: &mut ReplyWriter, out: &mut K) -> Result<Outcome, StreamError>
+pub(crate) fn answer_none<K: FrameSink>(
+    reply: &mut ReplyWriter,
+    out: &mut K,
+) -> Result<Outcome, StreamError>
     requires fresh { reply.old ≡ unbegun reply.old.progress reply.old.left }
     ensures reply { Answers K.wrap reply.old.progress [] (K.written out.old) (K.written out.new) result }
     ensures cause { IfErr result (HasStreamCause 0 0 (K.faults out.old) (K.faults out.new)) }
