@@ -1,2 +1,3 @@
 pub mod LineYields
 pub mod Turning
+pub mod Copying

@@ -2,6 +2,7 @@
 //! row is added to their totals, and the record of these ends the reply.
 #![tactic(auto)]
 
+mod copying;
 mod laws;
 mod lines;
 mod planned;

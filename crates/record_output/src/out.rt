@@ -90,6 +90,22 @@ impl Out {
         })
     }
 
+    /// The form of the records.
+    #[inline]
+    pub fn output(&self) -> &Output
+        ensures { result.now ≡ self.now.output }
+    {
+        &self.output
+    }
+
+    /// The most bytes of a record without its delimiter.
+    #[inline]
+    pub fn longest(&self) -> usize
+        ensures { result ≡ self.now.longest }
+    {
+        self.longest
+    }
+
     /// Begins a record.
     #[inline]
     pub fn begin(&mut self)
