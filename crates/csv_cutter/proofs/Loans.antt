@@ -1,9 +1,11 @@
 -- What lending a record makes of a cutter and its window.
-use Rattle.std.proofs.Common.{◌≡◌, ℕ, ◌+◌, ◌≤◌, true, List, take, drop, length, refl, sym, ◌∙◌, ap, arith, Ok, Err}
-use Rattle.std.proofs.lemmas.List.{take-take}
+use Rattle.std.proofs.Common.{◌≡◌, ℕ, ◌+◌, ◌≤◌, ◌==◌, Bool, true, false, List, [], ◌∷◌, take, drop, length, refl, sym, ◌∙◌, ap, arith, length-drop, Ok, Err}
+use Rattle.std.specs.Prelude.{bytes_eq, if◌then◌else◌}
+use Rattle.std.proofs.lemmas.List.{length-take, take-take}
 use Rattle.select_ports.specs.declared.outcome.Failed.{Failed}
 use Rattle.select_ports.specs.Stored.{Opened}
 use Rattle.line_window.specs.declared.line.Line.{Line}
+use Rattle.line_window.specs.Cuts.{without_mark}
 use Rattle.line_window.specs.Sliding.{View, ahead, IsSound}
 use Rattle.line_window.specs.Ahead.{Looks, IsAhead}
 use Rattle.csv_cutter.specs.declared.records.Pending.TheVariants.{Nothing, Passed}
@@ -72,3 +74,20 @@ lent_err opened cutter old new len behind failed before now sound ready none sho
   unpassed = λ _. none;
   told = λ object t h. tt;
 }
+
+-- ---- a content is no longer than its body
+
+unmarked_within : (xs : List ℕ) → length (without_mark xs) ≤ length xs
+unmarked_within xs =
+    let P : Bool → Type 0 = λ b. length (if b then drop 3 xs else xs) ≤ length xs in
+    elim (bytes_eq (take 3 xs) (0xef ∷ 0xbb ∷ 0xbf ∷ [])) as P [ true ↦ rw length-drop (omega arith) | false ↦ omega arith ]
+
+content_within : (place : ℕ) (body : List ℕ) → length (content_at place body) ≤ length body
+content_within place body =
+    let shorter = unmarked_within body in
+    let P : Bool → Type 0 = λ b. length (if b then without_mark body else body) ≤ length body in
+    elim (place == 0) as P [ true ↦ shorter | false ↦ omega arith ]
+
+pub lent_within : (place len longest : ℕ) (bytes content : List ℕ) → content ≡ content_at place (take len bytes) → len ≤ longest → length content ≤ longest
+lent_within place len longest bytes content is short =
+    omega (arith, ap length is, content_within place (take len bytes), length-take len bytes, short)

@@ -91,6 +91,10 @@ width_few : (delimiter : RecordDelimiter) → length (delimiter_bytes delimiter)
 width_few (One a) = omega arith
 width_few (Two a b) = omega arith
 
+width_any : (delimiter : RecordDelimiter) → 0 < length (delimiter_bytes delimiter)
+width_any (One a) = omega arith
+width_any (Two a b) = omega arith
+
 pub ended_delimiter : (opened : Opened) (d : Dialect) (old v w : View) (from : ℕ) (s : State) (look : Look) (before between now : ℕ) → Stays opened old v before between → Stays opened v w between now
     → IsEnding opened d old v from s → IsLook d w from s look → look.at ≤ w.longest → Ends d w from look.state look.at Delimiter
     → IsWhole opened d old w look.at (length (delimiter_of d))
@@ -101,6 +105,7 @@ ended_delimiter opened d old v w from s look before between now a b e l short en
       shown = ends.0;
       short = short;
       few = width_few d.delimiter;
+      onwards = omega (arith, width_any d.delimiter);
       told = λ object t holds.
           let place : w.place ≡ old.place = b.place ∙ a.place in
           let here = b.moves.told object t (a.moves.told object t holds) in (
@@ -119,6 +124,7 @@ ended_object opened d old v w from s look before between now a b e l short ends 
       shown = omega (arith, l.high);
       short = short;
       few = omega arith;
+      onwards = omega (arith, later.some, ends);
       told = λ object t holds.
           let place : w.place ≡ old.place = b.place ∙ a.place in
           let here = b.moves.told object t (a.moves.told object t holds) in

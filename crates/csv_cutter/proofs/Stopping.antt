@@ -1,6 +1,7 @@
 -- Where a walk over a record stops is where the record ends.
 use Rattle.std.proofs.Common.{◌↔◌, ◌≡◌, ℕ, zero, suc, ◌+◌, ◌-◌, ◌≤◌, ◌<◌, Bool, true, false, cond, ◌&&◌, ◌==◌, List, [], ◌∷◌, ◌++◌, take, drop, length, slice_index, refl, sym, ◌∙◌, ap, subst, arith, length-drop, ⊎_elim, inl, inr}
-use Rattle.std.proofs.lemmas.Bool.{cases_lt}
+use Rattle.std.specs.Prelude.{nat_lt, if◌then◌else◌}
+use Rattle.std.proofs.lemmas.Bool.{cases_lt, ltb-true, ltb-false}
 use Rattle.std.proofs.lemmas.List.{append-nil, get_or-drop, take-take, drop-drop, length-take, take_all}
 use Rattle.std.proofs.lemmas.Slice.Eq.{bytes_eq-Decides}
 use Rattle.std.specs.Str.{bytes_eq}
@@ -13,6 +14,7 @@ use Rattle.csv_cutter.specs.Fields.{begins_with, SpellsField, BeginsWithField, l
 use Rattle.csv_cutter.specs.Walk.{is_outside, special, step, Goes}
 use Rattle.csv_cutter.specs.Records.{delimiter_of, content_at, MayEndWith, MayEnd, EndsRecord, delimited as ends_at_delimiter, unended, CutsRecord, AreRecords}
 use Rattle.csv_cutter.specs.Stops.{may_end, delimited, stops, stop_from, state_after, first_state, mark_len, content_len, body_len, cut_of}
+use Rattle.csv_cutter.specs.Cuttings.{quoted_from, quoted_cuts}
 use Rattle.csv_cutter.proofs.Characters.{eq_self, eq_not, clash, IsApart, Delimits}
 use Rattle.csv_cutter.proofs.Lines.{has_fields, field_goes, open_goes, no_special}
 
@@ -476,3 +478,21 @@ records_alone d a q object p (one ∷ ones) (other ∷ others) h g =
     let same : one ≡ other = record_alone d a q object p one h.0 ∙ sym (record_alone d a q object p other g.0) in
     let P : ℕ → Type 0 = λ w. AreRecords d object (p + w) others in
     ap (λ c. c ∷ ones) same ∙ ap (λ cs. other ∷ cs) (records_alone d a q object (p + one.whole) ones others h.1 (subst P (ap (λ c. c.whole) (sym same)) g.1))
+
+-- ---- the records as a function
+
+cut_so_from : (d : Dialect) → IsApart d → Delimits d → (object : List ℕ) (n p : ℕ) → length object ≤ p + n → AreRecords d object p (quoted_from d object p n)
+cut_so_from d a q object zero p l = omega arith
+cut_so_from d a q object (suc n) p l =
+    let cut = cut_of d object p in
+    let P : Bool → Type 0 = λ b. nat_lt p (length object) ≡ b → AreRecords d object p (if b then cut ∷ quoted_from d object (p + cut.whole) n else []) in
+    (elim (nat_lt p (length object)) as P [
+      | true ↦ λ is.
+          let some : p < length object = ltb-true p (length object) is in
+          (record_there d a q object p some, cut_so_from d a q object n (p + cut.whole) (omega (arith, whole_some d q object p some)))
+      | false ↦ λ is. ltb-false p (length object) is
+    ]) refl
+
+pub cut_so : (d : Dialect) → IsApart d → Delimits d → (object : List ℕ) → AreRecords d object 0 (quoted_cuts d object)
+unfolding quoted_cuts
+cut_so d a q object = cut_so_from d a q object (length object) 0 (omega arith)

@@ -8,7 +8,7 @@ use Rattle.select_ports.specs.Stored.{Opened}
 use Rattle.line_window.specs.Cuts.{Cut}
 use Rattle.line_window.specs.Sliding.{View, ahead, Tells, Holds, IsSound}
 use Rattle.line_window.specs.Ahead.{Passes}
-use Rattle.line_window.specs.Answers.{IsNextCut}
+use Rattle.line_window.specs.Answers.{IsNextCut, IsWithin}
 use Rattle.csv_cutter.specs.declared.dialect.Dialect.{Dialect}
 use Rattle.csv_cutter.specs.declared.walk.State.{State}
 use Rattle.csv_cutter.specs.declared.looks.Look.{Look}
@@ -19,7 +19,7 @@ use Rattle.csv_cutter.specs.declared.records.QuotedRecords.{QuotedRecords}
 use Rattle.csv_cutter.specs.Records.{AreRecords, delimiter_of, content_at}
 use Rattle.csv_cutter.specs.Stops.{stop_from, body_len, cut_of}
 use Rattle.csv_cutter.specs.Looks.{Moves, Stays, IsLook, Ends, IsFound}
-use Rattle.csv_cutter.specs.Cutter.{pending_len, next_start, Left, IsReady, Settles, Finds, ShowsFound, FindsNext, TakesRecord, GoesOn, LendsLine, LendsRecord}
+use Rattle.csv_cutter.specs.Cutter.{pending_len, next_start, Left, IsReady, Settles, Finds, ShowsFound, FindsNext, TakesRecord, GoesFurther, GoesOn, LendsLine, LendsRecord}
 use Rattle.csv_cutter.specs.Dialects.{is_valid}
 use Rattle.csv_cutter.specs.declared.looks.Found.{Found}
 use Rattle.csv_cutter.specs.declared.looks.Found.TheVariants.{Record, Long, Past}
@@ -55,6 +55,7 @@ records_at d object p q cuts e r = let P : ℕ → Type 0 = λ n. AreRecords d o
 -- on the way through it: where the next record starts stays the same
 pub record Passing (opened : Opened) (d : Dialect) (old v : View) (s : State) (n : ℕ) (t : State) (m : ℕ) : Type 0 where
   pub shown : m ≤ length (ahead v)
+  pub onwards : old.place + n ≤ v.place + m
   pub same : (object : List ℕ) → Tells opened object → Holds object old
       → old.place + n + stop_from d s (drop (old.place + n) object) ≡ v.place + m + stop_from d t (drop (v.place + m) object)
 
@@ -80,12 +81,19 @@ pub look_on : (opened : Opened) (d : Dialect) (old v w x : View) (s : State) (n 
     → IsLook d x 0 t look → Passing opened d old x s n look.state look.at
 look_on opened d old v w x s n t m look before between now p l = record {
   shown = l.high;
+  onwards = omega (arith, p.passing.onwards, p.passes.place, p.looks.place);
   same = λ object told holds.
       let here = (passed_moves opened d old v w x s n t m before between now p).told object told holds in
       omega (arith, passed_same opened d old v w x s n t m before between now p object told holds, l.walked object here);
 }
 
 -- ---- the answered record is passed
+
+not_passed : (q : Pending) (n : ℕ) → q ≡ Passed n → q ≡ Nothing → ⊥
+not_passed q n is none = absurd (cc)
+
+not_rest : (q : Pending) (s : State) (n : ℕ) → q ≡ Rest s n → q ≡ Nothing → ⊥
+not_rest q s n is none = absurd (cc)
 
 pub settle_none : (opened : Opened) (cutter : QuotedRecords) (v : View) (before : ℕ) → IsSound v → IsReady cutter v → cutter.pending ≡ Nothing → Settles opened cutter cutter v v (Ok tt) before before
 settle_none opened cutter v before s r p = record {
@@ -95,6 +103,8 @@ settle_none opened cutter v before s r p = record {
   failed = λ e. absurd (clash (sym e));
   works = λ _. refl;
   settled = λ _. p;
+  onwards = λ _. omega (arith, ap pending_len p);
+  stays = λ _. refl;
   told = λ object t h cuts l. l;
 }
 
@@ -107,6 +117,8 @@ settle_passed opened cutter later old new n before s r p passes d l none = recor
   failed = λ e. absurd (clash (sym e));
   works = λ _. passes.failed;
   settled = λ _. none;
+  onwards = λ _. omega (arith, passes.place, ap pending_len p);
+  stays = λ none. absurd (not_passed cutter.pending n p none);
   told = λ object t h cuts left.
       let before_it : AreRecords cutter.dialect object (old.place + n) cuts = records_at cutter.dialect object _ _ cuts (ap (λ q. next_start cutter.dialect q object old.place) p) left in
       let same : old.place + n ≡ next_start later.dialect later.pending object new.place = sym passes.place ∙ ap (λ q. next_start later.dialect q object new.place) (sym none) in
@@ -136,6 +148,8 @@ settle_rest opened cutter later old v w x new s n t m k before between now p pas
       failed = λ e. absurd (clash (sym e));
       works = λ _. passes.failed ∙ fine ∙ works_same old.failed works;
       settled = λ _. none;
+      onwards = λ _. omega (arith, p.passing.onwards, p.passes.place, p.looks.place, passes.place, ap pending_len pending);
+      stays = λ none. absurd (not_rest cutter.pending s n pending none);
       told = λ object told holds cuts left.
           let width = length (delimiter_of cutter.dialect) in
           let start : next_start cutter.dialect cutter.pending object old.place ≡ x.place + 0 + stop_from cutter.dialect t (drop (x.place + 0) object) + width =
@@ -169,6 +183,8 @@ settle_failed opened cutter later old v w x s n t m before between now failed p 
       failed = λ _. fails;
       works = λ e. absurd (clash (sym e));
       settled = λ e. absurd (clash (sym e));
+      onwards = λ e. absurd (clash (sym e));
+      stays = λ none. absurd (not_rest cutter.pending s n pending none);
       told = λ object told holds cuts left.
           let width = length (delimiter_of cutter.dialect) in
           let start : next_start cutter.dialect cutter.pending object old.place ≡ x.place + 0 + stop_from cutter.dialect t (drop (x.place + 0) object) + width =
@@ -190,7 +206,7 @@ records_left cutter object v cuts pending p r = records_at cutter.dialect object
 
 finds : (opened : Opened) (d : Dialect) (mid new : View) (found : Found) → IsFound opened d mid new found → Finds d new found
 finds opened d mid new Past h = h
-finds opened d mid new (Record len behind) h = (h.some, h.shown, h.short, h.few)
+finds opened d mid new (Record len behind) h = (h.some, h.shown, h.short, h.few, h.onwards)
 finds opened d mid new (Long state n) h = (h.0.some, h.0.shown, h.1)
 
 shows_found : (opened : Opened) (d : Dialect) (mid new : View) (found : Found) (object : List ℕ) → new.place ≡ mid.place → Tells opened object → Holds object mid → IsFound opened d mid new found → ShowsFound d object new found
@@ -215,6 +231,8 @@ found_next opened cutter later old mid new result before between now s stays fai
   dialect = s.dialect;
   failed = failed;
   settled = λ _. s.settled refl;
+  onwards = λ _. omega (arith, s.onwards refl, stays.place);
+  stays = λ none. stays.place ∙ s.stays none;
   found = by_found result found;
   told = λ object t h cuts l.
       let here = settled_records later object mid cuts (s.settled refl) (s.told object t h cuts l) in
@@ -240,6 +258,8 @@ took_end opened cutter later old new before now f = record {
   dialect = f.dialect;
   failed = f.failed;
   place = f.found;
+  onwards = tt;
+  stays = f.stays;
   told = λ object t h cuts l.
       let here = settled_records later object new cuts (f.settled refl) (f.told object t h cuts l) in
       let size : length object ≤ new.place = omega (arith, (f.moves.told object t h).size, f.found) in
@@ -284,6 +304,8 @@ took_long opened cutter found later old new state n start before now valid f s d
   dialect = d ∙ f.dialect;
   failed = f.failed;
   place = s;
+  onwards = omega (arith, f.onwards refl, f.found.2, ap pending_len p);
+  stays = f.stays;
   told = λ object t h cuts left.
       let here = f.moves.told object t h in
       let there = settled_records found object new cuts (f.settled refl) (f.told object t h cuts left) in
@@ -334,9 +356,17 @@ took_record opened cutter found later old mid new len behind result before betwe
   dialect = lends.dialect ∙ f.dialect;
   failed = lends.failed;
   place = lends.place;
+  onwards = further result (lends.passed);
+  stays = λ none. lends.stays.place ∙ f.stays none;
   told = λ object t h cuts left. by_result result (lends.passed) (lends.unpassed) object t h cuts left (lends.told object t (f.moves.told object t h));
 }
   where
+    further : (result : Result Line Failed) → (IsOk result → later.pending ≡ Passed (len + behind)) → GoesFurther cutter later old new result
+    further (Ok (At start bytes whole)) passed = omega (arith, f.onwards refl, f.found.4, lends.stays.place, ap pending_len (passed refl))
+    further (Ok (TooLong start)) passed = omega (arith, f.onwards refl, f.found.4, lends.stays.place, ap pending_len (passed refl))
+    further (Ok End) passed = tt
+    further (Err failed) passed = tt
+
     by_result : (result : Result Line Failed) → (IsOk result → later.pending ≡ Passed (len + behind)) → (IsErr result → later.pending ≡ Nothing)
         → (object : List ℕ) → Tells opened object → Holds object old → (cuts : List Cut) → Left cutter object old cuts → LendsLine new len behind result object
         → GoesOn later object new old.longest cuts result
@@ -366,3 +396,7 @@ took_record opened cutter found later old mid new len behind result before betwe
 pub later_cause : {A : Type 0} (result : Result A Failed) (P Q : Type 0) (before between now : ℕ) → P → before ≤ between → OnErr result (P → Rose between now) → OnErr result (Q → Rose before now)
 later_cause (Ok a) P Q before between now p l h = tt
 later_cause (Err failed) P Q before between now p l h = λ _. let rose = h p in omega (arith, l, rose)
+
+-- the record limit, as the window has it before and after
+pub within_same : (result : Result Line Failed) (n m : ℕ) → n ≡ m → IfOk result (IsWithin n) → IfOk result (IsWithin m)
+within_same result n m same within = subst (λ k. IfOk result (IsWithin k)) same within

@@ -46,6 +46,13 @@ StandsThere window (Ok (TooLong start)) = start ≡ window.place
 StandsThere window (Ok End) = window.place ≡ window.size
 StandsThere window (Err failed) = Unit {0}
 
+-- a record moves the place on up to which the bytes of the answered records are known
+abbrev pub GoesFurther : QuotedRecords → QuotedRecords → View → View → Result Line Failed → Type 0
+GoesFurther cutter later old new (Ok (At start bytes whole)) = old.place + pending_len cutter.pending < new.place + pending_len later.pending
+GoesFurther cutter later old new (Ok (TooLong start)) = old.place + pending_len cutter.pending < new.place + pending_len later.pending
+GoesFurther cutter later old new (Ok End) = Unit {0}
+GoesFurther cutter later old new (Err failed) = Unit {0}
+
 -- the answer is the next of the records that were left, and those behind it are left now
 pub record GoesOn (cutter : QuotedRecords) (object : List ℕ) (window : View) (longest : ℕ) (before : List Cut) (result : Result Line Failed) : Type 0 where
   pub after : List Cut
@@ -59,6 +66,8 @@ pub record TakesRecord (opened : Opened) (cutter later : QuotedRecords) (old new
   pub dialect : later.dialect ≡ cutter.dialect
   pub failed : new.failed ≡ is_err result
   pub place : StandsThere new result
+  pub onwards : GoesFurther cutter later old new result
+  pub stays : cutter.pending ≡ Nothing → new.place ≡ old.place
   pub told : (object : List ℕ) → Tells opened object → Holds object old
       → (cuts : List Cut) → Left cutter object old cuts → GoesOn later object new old.longest cuts result
 
@@ -80,6 +89,8 @@ pub record Settles (opened : Opened) (cutter later : QuotedRecords) (old new : V
   pub failed : IsErr result → new.failed ≡ true
   pub works : IsOk result → new.failed ≡ old.failed
   pub settled : IsOk result → later.pending ≡ Nothing
+  pub onwards : IsOk result → old.place + pending_len cutter.pending ≤ new.place
+  pub stays : cutter.pending ≡ Nothing → new.place ≡ old.place
   pub told : (object : List ℕ) → Tells opened object → Holds object old → (cuts : List Cut) → Left cutter object old cuts → Left later object new cuts
 
 -- a line with this content and whole length at the window's place
@@ -104,7 +115,7 @@ pub record LendsRecord (opened : Opened) (cutter later : QuotedRecords) (old new
 -- what was found, without an object
 abbrev pub Finds : Dialect → View → Found → Type 0
 Finds d v Past = v.place ≡ v.size
-Finds d v (Record len behind) = (v.place < v.size) × (len + behind ≤ length (ahead v)) × (len ≤ v.longest) × (behind ≤ 2)
+Finds d v (Record len behind) = (v.place < v.size) × (len + behind ≤ length (ahead v)) × (len ≤ v.longest) × (behind ≤ 2) × (0 < len + behind)
 Finds d v (Long state n) = (v.place < v.size) × (n ≤ length (ahead v)) × (v.longest < n)
 
 -- what was found of an object
@@ -121,6 +132,8 @@ pub record FindsNext (opened : Opened) (cutter later : QuotedRecords) (old new :
   pub dialect : later.dialect ≡ cutter.dialect
   pub failed : new.failed ≡ is_err result
   pub settled : IsOk result → later.pending ≡ Nothing
+  pub onwards : IsOk result → old.place + pending_len cutter.pending ≤ new.place
+  pub stays : cutter.pending ≡ Nothing → new.place ≡ old.place
   pub found : IfOk result (Finds later.dialect new)
   pub told : (object : List ℕ) → Tells opened object → Holds object old → (cuts : List Cut) → Left cutter object old cuts → Left later object new cuts
   pub shows : (object : List ℕ) → Tells opened object → Holds object old → IfOk result (ShowsFound later.dialect object new)

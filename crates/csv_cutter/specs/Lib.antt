@@ -4,5 +4,6 @@ pub mod Reading
 pub mod Records
 pub mod Stops
 pub mod Walk
+pub mod Cuttings
 pub mod Cutter
 pub mod Looks

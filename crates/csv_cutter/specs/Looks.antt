@@ -84,6 +84,7 @@ pub record IsWhole (opened : Opened) (d : Dialect) (old v : View) (len behind : 
   pub shown : len + behind ≤ length (ahead v)
   pub short : len ≤ v.longest
   pub few : behind ≤ 2
+  pub onwards : 0 < len + behind
   pub told : (object : List ℕ) → Tells opened object → Holds object old → (len ≡ body_len d old.place (drop old.place object))
       × (len + behind ≡ min (len + length (delimiter_of d)) (length object - old.place))
 

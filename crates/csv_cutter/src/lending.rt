@@ -1,10 +1,11 @@
 //! Lends a record whose end was found.
-ghost use Rattle.std.specs.Prelude.{◌≡◌, ◌+◌, ◌≤◌, false, true, length, IsErr, OnErr};
+ghost use Rattle.std.specs.Prelude.{◌≡◌, ◌+◌, ◌≤◌, false, true, length, IfOk, IsErr, OnErr};
 ghost use Rattle.std.specs.Borrow.{sem};
 ghost use Rattle.std.specs.Io.BufRead.{Rests};
 ghost use Rattle.select_ports.specs.Causes.{Rose};
 ghost use Rattle.select_ports.specs.Stored.{IsOpen};
 ghost use Rattle.line_window.specs.contracts.window.Window.{the_row};
+ghost use Rattle.line_window.specs.Answers.{IsWithin};
 ghost use Rattle.line_window.specs.Sliding.{IsSound, ahead};
 ghost use Rattle.csv_cutter.specs.Records.{content_at};
 ghost use Rattle.csv_cutter.specs.Cutter.{IsReady, LendsRecord};
@@ -29,8 +30,10 @@ pub(crate) fn lend<'w, S: Store>(
     requires settled { cutter.old.pending ≡ Nothing }
     requires shown { len + behind ≤ length (ahead window.old) }
     requires short { len + behind ≤ window.old.longest + 2 }
+    requires within { len ≤ window.old.longest }
     ensures* after { sem 𝓛 (Rests the_row window.entry (λ new.
         LendsRecord (S.current store.old) cutter.old cutter.new window.old new len behind result (S.taken store.old) (S.taken store.new))) }
+    ensures within { IfOk result (IsWithin window.old.longest) }
     ensures stays_failed { window.old.failed ≡ true → IsErr result }
     ensures cause { OnErr result (window.old.failed ≡ false → Rose (S.faults store.old) (S.faults store.new)) }
     ensures faults { S.faults store.old ≤ S.faults store.new }

@@ -12,5 +12,8 @@ mod walk;
 
 pub use crate::dialect::Dialect;
 pub use crate::fields::{CsvFault, Fields, Spans};
-pub use crate::laws::{line_has_one_reading, line_is_read_by_a_function, object_has_one_cutting};
+pub use crate::laws::{
+    line_has_one_reading, line_is_read_by_a_function, object_has_one_cutting,
+    object_is_cut_by_a_function,
+};
 pub use crate::records::QuotedRecords;

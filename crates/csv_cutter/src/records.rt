@@ -36,6 +36,7 @@ impl QuotedRecords {
     ghost use Rattle.select_ports.specs.Causes.{Rose};
     ghost use Rattle.select_ports.specs.Stored.{IsOpen};
     ghost use Rattle.line_window.specs.contracts.window.Window.{the_row};
+    ghost use Rattle.line_window.specs.Answers.{IsWithin};
     ghost use Rattle.line_window.specs.Sliding.{IsSound};
     ghost use Rattle.csv_cutter.specs.Cutter.{IsBegun, IsReady, TakesRecord, Settles, FindsNext};
     ghost use Rattle.csv_cutter.specs.declared.records.Pending.TheVariants.{Nothing, Rest};
@@ -64,6 +65,7 @@ impl QuotedRecords {
         requires ready { IsReady cutter.old window.old }
         ensures* after { sem 𝓛 (Rests the_row window.entry (λ new.
             TakesRecord (S.current store.old) cutter.old cutter.new window.old new result (S.taken store.old) (S.taken store.new))) }
+        ensures within { IfOk result (IsWithin window.old.longest) }
         ensures stays_failed { window.old.failed ≡ true → IsErr result }
         ensures cause { OnErr result (window.old.failed ≡ false → Rose (S.faults store.old) (S.faults store.new)) }
         ensures faults { S.faults store.old ≤ S.faults store.new }

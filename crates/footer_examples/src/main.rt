@@ -101,8 +101,8 @@ fn tell_kind(told: &mut String, kind: ColumnKind) -> Result<(), Fail> {
 
 fn tell_width(told: &mut String, name: &str, width: Width) -> Result<(), Fail> {
     let width = match width {
-        Width::W32 => "W32",
-        Width::W64 => "W64",
+        Width::Bits32 => "Bits32",
+        Width::Bits64 => "Bits64",
     };
     write!(told, "{name} {width}")?;
     Ok(())

@@ -1,4 +1,4 @@
--- The header is the line at the object's front.
+-- The header is the line at the object's front, or the first of its records where quoted fields may hold record delimiters.
 use Rattle.std.specs.Prelude.{◌≡◌, ℕ, ◌<◌, Bool, true, false, nat_lt, List, [], ◌∷◌, length, map, Ok, Err, if◌then◌else◌, refl}
 use Rattle.std.proofs.Common.{ap, sym, subst, ◌∙◌, arith}
 use Rattle.std.proofs.lemmas.Bool.{lt-ltb, le-ltb}
@@ -13,7 +13,8 @@ use Rattle.csv_cutter.specs.Dialects.{delimiter_bytes}
 use Rattle.record_rows.specs.Headers.{names_of}
 use Rattle.scan_plan.specs.declared.columns.Columns.TheVariants as columns
 use Rattle.select_reply.specs.declared.code.Code.TheVariants.{OverMaxRecordSize}
-use Rattle.object_plan.specs.Columns.{named_columns, header_columns, used_columns}
+use Rattle.csv_cutter.specs.Cuttings.{quoted_from, quoted_cuts}
+use Rattle.object_plan.specs.Columns.{named_columns, header_columns, used_columns, first_columns, quoted_columns}
 
 -- a line starts at the front of an object with a byte
 is_front : (d object : List ℕ) → nat_lt 0 (length object) ≡ true → is_start d object 0 ≡ true
@@ -73,3 +74,35 @@ module _ (dialect : Dialect) (longest : ℕ) (object : List ℕ) (before after :
 
   pub header_over : (start : ℕ) → line ≡ TooLong start → Err OverMaxRecordSize ≡ used_columns dialect longest object
   header_over start is = long_header dialect longest object before after some here start (subst (IsNextCut longest before after) is next)
+
+-- ---- quoted records
+
+first_is : (dialect : Dialect) (longest : ℕ) (cut : Cut) (before after : List Cut) → before ≡ cut ∷ after → first_columns dialect longest before ≡ header_columns dialect longest cut
+first_is dialect longest cut before after is = ap (first_columns dialect longest) is
+
+module _ (dialect : Dialect) (longest : ℕ) (before after : List Cut) (line : Line) (next : IsNextCut longest before after line) where
+  -- a record within the limit
+  pub quoted_at : (start whole : ℕ) (bytes : Bor (List ℕ)) → line ≡ At start bytes whole → named_columns (names_of dialect bytes.now) ≡ first_columns dialect longest before
+  quoted_at start whole bytes is =
+      let shown = subst (IsNextCut longest before after) is next in
+      let cut = shown.cut in
+      let short = le-ltb longest (length cut.body) shown.shown.1.short in
+      ap (λ b. named_columns (names_of dialect b)) shown.shown.1.bytes
+      ∙ sym (first_is dialect longest cut before after shown.first ∙ header_short dialect longest cut short)
+
+  pub quoted_over : (start : ℕ) → line ≡ TooLong start → Err OverMaxRecordSize ≡ first_columns dialect longest before
+  quoted_over start is =
+      let shown = subst (IsNextCut longest before after) is next in
+      let cut = shown.cut in
+      let long = lt-ltb longest (length cut.body) shown.shown.1 in
+      sym (first_is dialect longest cut before after shown.first ∙ header_long dialect longest cut long)
+
+  pub quoted_end : line ≡ End → Ok columns.Absent ≡ first_columns dialect longest before
+  quoted_end is =
+      let none = subst (IsNextCut longest before after) is next in
+      sym (ap (first_columns dialect longest) none.0)
+
+-- an object without a byte has no record
+pub quoted_empty : (dialect : Dialect) (longest : ℕ) (object : List ℕ) → length object ≡ 0 → Ok columns.Absent ≡ quoted_columns dialect longest object
+unfolding quoted_cuts
+quoted_empty dialect longest object none = sym (ap (λ n. first_columns dialect longest (quoted_from dialect object 0 n)) none)

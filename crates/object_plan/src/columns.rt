@@ -8,12 +8,13 @@ ghost use Rattle.select_request.specs.Printable.{is_input};
 ghost use Rattle.object_plan.specs.Columns.{named_columns, used_columns, columns_of, ends_with, header_read, header_once};
 ghost use Rattle.object_plan.specs.Stops.{IsTold, HasStopCause};
 
+use crate::quoted::quoted_columns;
 use crate::stop::Stop;
 use csv_cutter::{Dialect, Spans};
 use line_window::{Line, Window};
 use record_rows::{HeaderError, header_names};
 use scan_plan::Columns;
-use select_ports::{Failed, Range, Store};
+use select_ports::{Failed, Limits, Range, Store};
 use select_reply::Code;
 use select_request::{Header, Input};
 use std::alloc::Global;
@@ -21,6 +22,7 @@ use std::alloc::Global;
 /// The columns of the open object, whose size is given, or the fault of its header.
 pub(crate) fn columns_of<S: Store>(
     alloc: Global,
+    limits: Limits,
     input: &Input,
     window: &mut Window,
     spans: &mut Spans,
@@ -30,6 +32,7 @@ pub(crate) fn columns_of<S: Store>(
     requires object { IsOpen (S.current store.old) size }
     requires valid { is_input input.now ≡ true }
     requires delimiter { ends_with input.now window.old.delimiter }
+    requires limit { limits.longest ≡ window.old.longest }
     ensures columns { (object : List ℕ) → Tells (S.current store.old) object → IsTold (columns_of input.now window.old.longest object) result }
     ensures cause { IfErr result (HasStopCause (S.faults store.old) (S.faults store.new)) }
     ensures taken { S.taken store.new ≤ S.taken store.old + header_read input.now window.old.longest }
@@ -45,7 +48,13 @@ pub(crate) fn columns_of<S: Store>(
         Input::Csv(csv) => match csv.header {
             Header::Without => Ok(Columns::Positions),
             Header::Ignore => Ok(Columns::Positions),
-            Header::Use => used_columns(alloc, &Dialect::of(*csv), window, spans, store, size),
+            Header::Use => {
+                let dialect = Dialect::of(*csv);
+                if csv.quoted_delimiters {
+                    return quoted_columns(alloc, limits, &dialect, window, spans, store, size);
+                }
+                used_columns(alloc, &dialect, window, spans, store, size)
+            }
         },
         Input::JsonLines => Ok(Columns::Json),
         Input::JsonDocument => Ok(Columns::Document),
@@ -96,7 +105,7 @@ fn used_columns<S: Store>(
 }
 
 // The columns that the content of a header names.
-fn named_columns(
+pub(crate) fn named_columns(
     alloc: Global,
     dialect: &Dialect,
     content: &[u8],

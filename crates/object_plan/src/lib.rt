@@ -5,6 +5,7 @@
 mod codes;
 mod columns;
 mod planning;
+mod quoted;
 mod stop;
 
 pub use crate::planning::plan_over;

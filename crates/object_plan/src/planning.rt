@@ -16,15 +16,16 @@ use line_window::Window;
 use planned_lines::Planned;
 use scan_plan::{BindError, Columns, Plan, bind};
 use select_job::Job;
-use select_ports::Store;
+use select_ports::{Limits, Store};
 use select_sql::Query;
 use sqlite_items::Boxed;
 use std::alloc::Global;
 
-/// The plan of a query over the store's open object, whose size in bytes is given, or what ends it before the first record: the fault of
-/// a used header, which is read by a seek of the window's own, and then that of binding.
+/// The plan of a query over the store's open object, whose size in bytes is given, by a window of the given record limit; or what ends
+/// it before the first record: the fault of a used header, which is read by a seek of the window's own, and then that of binding.
 pub fn plan_over<S: Store>(
     alloc: Global,
+    limits: Limits,
     job: &Job,
     window: &mut Window,
     spans: &mut Spans,
@@ -33,6 +34,7 @@ pub fn plan_over<S: Store>(
 ) -> Result<Boxed<Planned>, Stop>
     requires object { IsOpen (S.current store.old) size }
     requires delimiter { ends_with job.now.request.input window.old.delimiter }
+    requires limit { limits.longest ≡ window.old.longest }
     ensures planned { (object : List ℕ) → Tells (S.current store.old) object
         → IsTold (planned_over window.old.longest object job.now.request.input job.now.query) result }
     ensures cause { IfErr result (HasStopCause (S.faults store.old) (S.faults store.new)) }
@@ -46,7 +48,15 @@ pub fn plan_over<S: Store>(
     ensures store_faults { S.faults store.old ≤ S.faults store.new }
 {
     let query = job.query();
-    match columns_of(alloc, &job.request().input, window, spans, store, size) {
+    match columns_of(
+        alloc,
+        limits,
+        &job.request().input,
+        window,
+        spans,
+        store,
+        size,
+    ) {
         Ok(columns) => bind_to(alloc, query, columns),
         Err(stop) => Err(stop),
     }

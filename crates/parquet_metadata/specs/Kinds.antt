@@ -77,10 +77,10 @@ word_kind w note.Absent = column.Signed w
 word_kind w note.Signed = column.Signed w
 word_kind w note.Unsigned = column.Unsigned w
 word_kind w (note.Decimal scale) = decimal_in (form.Word w) scale
-word_kind width.W32 note.Date = column.Date
-word_kind width.W64 note.Millis = column.Millis
-word_kind width.W64 note.Micros = column.Micros
-word_kind width.W64 note.Nanos = column.Nanos
+word_kind width.Bits32 note.Date = column.Date
+word_kind width.Bits64 note.Millis = column.Millis
+word_kind width.Bits64 note.Micros = column.Micros
+word_kind width.Bits64 note.Nanos = column.Nanos
 word_kind w _ = column.Unsupported
 
 abbrev pub int96_kind : Annotation → ColumnKind
@@ -109,8 +109,8 @@ fixed_kind (Some length) _ = column.Unsupported
 abbrev pub physical_kind : ℤ → Option ℤ → Annotation → ColumnKind
 physical_kind physical length a =
     if int_eq physical (pos 0) then boolean_kind a
-    else if int_eq physical (pos 1) then word_kind width.W32 a
-    else if int_eq physical (pos 2) then word_kind width.W64 a
+    else if int_eq physical (pos 1) then word_kind width.Bits32 a
+    else if int_eq physical (pos 2) then word_kind width.Bits64 a
     else if int_eq physical (pos 3) then int96_kind a
     else if int_eq physical (pos 6) then bytes_kind a
     else if int_eq physical (pos 7) then fixed_kind length a

@@ -8,8 +8,8 @@ use crate::logical::{LogicalType, TimeUnit};
 /// The width of a little-endian word.
 #[derive(Clone, Copy, Debug, PartialEq, Eq)]
 pub enum Width {
-    W32,
-    W64,
+    Bits32,
+    Bits64,
 }
 
 /// How a decimal's unscaled value is stored.
@@ -171,10 +171,10 @@ fn word_kind(width: Width, annotation: Annotation) -> ColumnKind
         Annotation::Unsigned => ColumnKind::Unsigned(width),
         Annotation::Decimal(scale) => decimal_in(Form::Word(width), scale),
         _ => match (width, annotation) {
-            (Width::W32, Annotation::Date) => ColumnKind::Date,
-            (Width::W64, Annotation::Millis) => ColumnKind::Millis,
-            (Width::W64, Annotation::Micros) => ColumnKind::Micros,
-            (Width::W64, Annotation::Nanos) => ColumnKind::Nanos,
+            (Width::Bits32, Annotation::Date) => ColumnKind::Date,
+            (Width::Bits64, Annotation::Millis) => ColumnKind::Millis,
+            (Width::Bits64, Annotation::Micros) => ColumnKind::Micros,
+            (Width::Bits64, Annotation::Nanos) => ColumnKind::Nanos,
             _ => ColumnKind::Unsupported,
         },
     }
@@ -231,8 +231,8 @@ fn physical_kind(physical: i64, length: Option<i64>, annotation: Annotation) -> 
 {
     match physical {
         0 => boolean_kind(annotation),
-        1 => word_kind(Width::W32, annotation),
-        2 => word_kind(Width::W64, annotation),
+        1 => word_kind(Width::Bits32, annotation),
+        2 => word_kind(Width::Bits64, annotation),
         3 => int96_kind(annotation),
         6 => bytes_kind(annotation),
         7 => fixed_kind(length, annotation),

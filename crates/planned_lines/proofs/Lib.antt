@@ -1,3 +1,6 @@
 pub mod Kept
 pub mod Outputs
+pub mod Pieces
+pub mod QuotedFields
+pub mod OwnRecords
 pub mod Totalled

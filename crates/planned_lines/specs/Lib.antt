@@ -1,3 +1,4 @@
 pub mod KeptRows
 pub mod LineYields
 pub mod Turning
+pub mod Copying

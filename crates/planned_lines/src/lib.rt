@@ -2,9 +2,11 @@
 //! row is added to their totals, and the record of these ends the reply.
 #![tactic(auto)]
 
+mod copying;
 mod laws;
 mod lines;
 mod planned;
+mod respelled;
 mod totals;
 
 pub use crate::laws::{

@@ -14,6 +14,7 @@ ghost use Rattle.record_stream.specs.LineTurns.{turn_at, turn_at_end, last_behin
 ghost use Rattle.planned_lines.specs.LineYields.{no_totals, totals_with, unless_code, totals_behind_row, yield_by, content_yield, long_code, totals_record, lines_behind};
 ghost use Rattle.planned_lines.specs.Turning.{Answered, Ended, GoesOn, AreOf};
 
+use crate::copying::is_own_record;
 use crate::planned::Planned;
 use crate::totals::make_totals;
 use csv_cutter::Spans;
@@ -25,6 +26,7 @@ use record_yields::{RowYield, add_row, write_row, write_totals};
 use scan_plan::{Plan, PlanItems};
 use select_ports::{Failed, FrameSink};
 use select_reply::{Code, Outcome, RecordYield, ReplyWriter};
+use select_request::{Delimiter, Output};
 use sql_totals::Totals;
 use std::alloc::{AllocError, Global};
 
@@ -154,6 +156,12 @@ fn answer_content<K: FrameSink>(
     ensures rest { K.rest out.new ≡ K.rest out.old }
     ensures settings { HasSettings writer.old writer.new }
 {
+    if is_own_record(format, planned, writer.output(), start, content)
+        && content.len() <= writer.longest()
+    {
+        *last = start;
+        return answer_copied(writer.output(), reply, out, start, whole, content);
+    }
     match read_row(format, start, content, spans) {
         RecordRow::Passed => answer_yield(reply, out, start, whole, None),
         RecordRow::Faulty(code) => {
@@ -163,6 +171,61 @@ fn answer_content<K: FrameSink>(
             *last = start;
             answer_record(writer, totals, planned, &record, reply, out, start, whole)
         }
+    }
+}
+
+// Adds a line that is its own record.
+fn answer_copied<K: FrameSink>(
+    output: &Output,
+    reply: &mut ReplyWriter,
+    out: &mut K,
+    start: u64,
+    whole: u64,
+    content: &[u8],
+) -> Result<Option<Outcome>, Failed>
+    requires free { is_full reply.old.left ≡ false }
+    ensures answers { Answered K.wrap reply.old reply.new (turn_at start whole (Some
+        (writes (content.now ++ delimiter_bytes (delimiter_of output.now)))))
+        (K.written out.old) (K.written out.new) result }
+    ensures faults { HasCause (K.faults out.old) (K.faults out.new) result }
+    ensures rest { K.rest out.new ≡ K.rest out.old }
+{
+    match delimiter_of(output) {
+        Delimiter::One(byte) => answer_bytes(reply, out, start, whole, content, &[byte]),
+        Delimiter::Two(first, second) => {
+            answer_bytes(reply, out, start, whole, content, &[first, second])
+        }
+    }
+}
+
+// Adds an output of bytes and the delimiter behind them.
+#[inline]
+fn answer_bytes<K: FrameSink>(
+    reply: &mut ReplyWriter,
+    out: &mut K,
+    start: u64,
+    whole: u64,
+    bytes: &[u8],
+    delimiter: &[u8],
+) -> Result<Option<Outcome>, Failed>
+    requires free { is_full reply.old.left ≡ false }
+    ensures answers { Answered K.wrap reply.old reply.new (turn_at start whole (Some (writes (bytes.now ++ delimiter.now))))
+        (K.written out.old) (K.written out.new) result }
+    ensures faults { HasCause (K.faults out.old) (K.faults out.new) result }
+    ensures rest { K.rest out.new ≡ K.rest out.old }
+{
+    let output = RecordYield::Output { bytes, delimiter };
+    answer_yield(reply, out, start, whole, Some(output))
+}
+
+// What stands behind each output.
+#[inline]
+fn delimiter_of(output: &Output) -> Delimiter
+    ensures { result ≡ delimiter_of output.now }
+{
+    match output {
+        Output::Csv(csv) => csv.delimiter,
+        Output::Json(delimiter) => *delimiter,
     }
 }
 

@@ -10,7 +10,7 @@ use Rattle.json_text.specs.Grammar.{Json as Tree, empty_object, object, print}
 use Rattle.json_text.specs.Compact.{compact}
 use Rattle.json_text.specs.Naming.{members_of}
 use Rattle.sql_value.specs.declared.value.Value.{Value}
-use Rattle.sql_value.specs.declared.value.Value.TheVariants.{Missing, Node}
+use Rattle.sql_value.specs.declared.value.Value.TheVariants.{Missing, Text, Node}
 use Rattle.record_output.specs.CsvFields.{csv_field}
 use Rattle.record_output.specs.JsonStrings.{json_string}
 use Rattle.record_output.specs.Values.{csv_text, json_value}
@@ -19,6 +19,10 @@ use Rattle.record_output.specs.Values.{csv_text, json_value}
 pub record Field : Type 0 where
   pub name : List ℕ
   pub value : Value
+
+-- the field of a text under a name, both as they are lent
+abbrev pub text_field : List ℕ → List ℕ → Field
+text_field name text = record { name = chars name; value = Text (chars text) }
 
 -- a JSON object's member: its name, a colon, its value
 abbrev pub json_member : Field → List ℕ

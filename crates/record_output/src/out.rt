@@ -5,7 +5,7 @@ ghost use Rattle.json_text.specs.Nodes.{Spells};
 ghost use Rattle.record_output.specs.Values.{fault_of};
 ghost use Rattle.record_output.specs.Records.{is_object};
 
-use crate::parts::{close, closing_len, has_part, open, push_part};
+use crate::parts::{close, closing_len, has_part, open, push_part, push_text_part};
 use crate::spelled::push_squeezed;
 use json_text::{JsonNode, Kind};
 use select_ports::Limits;
@@ -65,7 +65,7 @@ impl Out {
     ghost use Rattle.json_text.specs.Nodes.{Spells};
     ghost use Rattle.json_text.specs.Skipped.{outside};
     ghost use Rattle.json_text.specs.Compact.{squeezed};
-    ghost use Rattle.record_output.specs.Records.{Field, opening, closing, values_in, has_values, is_object, record_text, whole_text, node_field, delimiter_of, delimiter_bytes};
+    ghost use Rattle.record_output.specs.Records.{Field, text_field, opening, closing, values_in, has_values, is_object, record_text, whole_text, node_field, delimiter_of, delimiter_bytes};
     ghost use Rattle.record_output.specs.Writing.{Writing, closed, is_within, within_limit, whole_verdict, HasSettings, anew, with_field, verdict, Holds};
     ghost use Rattle.record_output.specs.contracts.out.Out.{the_row};
 
@@ -88,6 +88,22 @@ impl Out {
             buffer,
             scratch,
         })
+    }
+
+    /// The form of the records.
+    #[inline]
+    pub fn output(&self) -> &Output
+        ensures { result.now ≡ self.now.output }
+    {
+        &self.output
+    }
+
+    /// The most bytes of a record without its delimiter.
+    #[inline]
+    pub fn longest(&self) -> usize
+        ensures { result ≡ self.now.longest }
+    {
+        self.longest
     }
 
     /// Begins a record.
@@ -144,6 +160,40 @@ impl Out {
         }
         self.len = len;
         self.some = self.some || has_part(&self.output, name, value);
+        Ok(())
+    }
+
+    /// Adds a field of a text that is lent as it is. The same as `field` of that text, and no value is made for it.
+    #[inline]
+    #[tactic(auto, using(crate::proofs::Recording::holds_after))]
+    pub fn text(&mut self, name: &str, text: &str) -> Result<(), OutFault>
+        ensures verdict { result ≡ verdict self.old (text_field name.now text.now) }
+        ensures ok { OnOk result (self.new ≡ with_field self.old (text_field name.now text.now)) }
+        ensures fault { OnErr result (self.new ≡ self.old) }
+        ensures holds { (fields : List Field) → Holds self.old fields
+            → OnOk result (Holds self.new (fields ++ text_field name.now text.now ∷ [])) }
+    {
+        self.add_text(name, text)
+    }
+
+    #[inline]
+    fn add_text(&mut self, name: &str, text: &str) -> Result<(), OutFault>
+        ensures verdict { result ≡ verdict self.old (text_field name.now text.now) }
+        ensures ok { OnOk result (self.new ≡ with_field self.old (text_field name.now text.now)) }
+        ensures fault { OnErr result (self.new ≡ self.old) }
+    {
+        self.buffer.truncate(self.len);
+        match push_text_part(&self.output, self.some, name, text, &mut self.buffer) {
+            Ok(()) => {}
+            Err(_) => return Err(OutFault::OverMaxRecordSize),
+        }
+        let len = self.buffer.bytes().len();
+        let closed = len + closing_len(&self.output);
+        if closed > self.longest {
+            return Err(OutFault::OverMaxRecordSize);
+        }
+        self.len = len;
+        self.some = true;
         Ok(())
     }
 

@@ -4,11 +4,13 @@ ghost use Rattle.std.specs.Str.{encode_utf8_all};
 ghost use Rattle.record_output.specs.Appending.{Appends};
 ghost use Rattle.record_output.specs.JsonStrings.{json_string};
 ghost use Rattle.record_output.specs.Values.{json_value};
-ghost use Rattle.record_output.specs.Records.{Field, json_member, parts_of, opening, separator, closing, delimiter_of, delimiter_bytes};
+ghost use Rattle.record_output.specs.Records.{Field, json_member, parts_of, text_field, opening, separator, closing, delimiter_of, delimiter_bytes};
 ghost use Rattle.record_output.specs.Writing.{added, between, any_part};
 
 use crate::appending::{append, push};
-use crate::spelled::{push_csv_value, push_json_value, push_name};
+use crate::csv::push_field;
+use crate::json::push_string;
+use crate::spelled::{lent_bytes, push_csv_value, push_json_value, push_name};
 use select_request::{Delimiter, Output};
 use sql_value::Value;
 use text_view::{Buf, Full, Text};
@@ -41,6 +43,40 @@ pub(crate) fn push_part(
             }
         },
     }
+}
+
+/// Appends what the field of a text adds to a record, or some front of it where it doesn't fit.
+#[inline]
+pub(crate) fn push_text_part(
+    output: &Output,
+    some: bool,
+    name: &str,
+    text: &str,
+    out: &mut Buf,
+) -> Result<(), Full>
+    ensures { Appends result out.old out.new
+        (added output.now some (parts_of output.now (text_field name.now text.now))) }
+{
+    match output {
+        Output::Csv(csv) => {
+            push_separator(some, csv.field, out)?;
+            push_field(csv, lent_bytes(text), out)
+        }
+        Output::Json(_) => {
+            push_separator(some, b',', out)?;
+            push_text_member(name, text, out)
+        }
+    }
+}
+
+/// Appends a text as a member of a JSON object, or some front of it.
+#[inline]
+fn push_text_member(name: &str, text: &str, out: &mut Buf) -> Result<(), Full>
+    ensures { Appends result out.old out.new (json_member (text_field name.now text.now)) }
+{
+    push_string(lent_bytes(name), out)?;
+    push(b":", out)?;
+    push_string(lent_bytes(text), out)
 }
 
 /// Whether a field gives a part to the record.

@@ -268,6 +268,14 @@ pub(crate) fn push_squeezed(node: &JsonNode<'_>, out: &mut Buf) -> Result<(), Fu
     node.write_compact(out)
 }
 
+/// The bytes of a text that is lent as it is.
+#[inline]
+pub(crate) fn lent_bytes(text: &str) -> &[u8]
+    ensures { encode_utf8_all (chars text.now) ≡ result.now }
+{
+    text.as_bytes()
+}
+
 /// The bytes of a text, where they are a slice of what was lent.
 #[inline]
 fn value_slice<'r>(text: &ValueText<'r>) -> Option<&'r [u8]>

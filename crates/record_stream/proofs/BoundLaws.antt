@@ -229,20 +229,19 @@ late longest taken n [] far from = tt
 late longest taken n (y ∷ ys) far from = lt-leb (y.start + y.len + (2 * longest + 5 * 65536)) taken (omega arith)
 
 -- the whole pieces of the early records' output have been written
-pub wrote_early : EachBegins → EachExtends → (wrap : List ℕ → List ℕ) (progress : Bool) (limit : Option ℕ) (lines : Lines) (longest upto : ℕ)
-    (object : List ℕ) (places done : List Cut) (v : View) (begun : Begun) (before mid : Option (List ℕ)) → places ≡ done ++ left object v
-    → Stands (asking wrap progress limit lines longest) (yields_of lines longest done) begun before mid → upto < v.place + (2 * longest + 5 * 65536)
-    → WroteEarly wrap progress longest upto (processed limit (yields_of lines longest places)) before mid
-wrote_early begins extends wrap progress limit lines longest upto object places done v begun before mid split s far =
+pub wrote_early : EachBegins → EachExtends → (wrap : List ℕ → List ℕ) (progress : Bool) (limit : Option ℕ) (lines : Lines) (longest upto place : ℕ)
+    (cuts done coming : List Cut) (begun : Begun) (before mid : Option (List ℕ)) → cuts ≡ done ++ coming → CutsFrom place coming
+    → Stands (asking wrap progress limit lines longest) (yields_of lines longest done) begun before mid → upto < place + (2 * longest + 5 * 65536)
+    → WroteEarly wrap progress longest upto (processed limit (yields_of lines longest cuts)) before mid
+wrote_early begins extends wrap progress limit lines longest upto place cuts done coming begun before mid split starts s far =
     let ys = yields_of lines longest done in
-    let later = yields_of (behind_all lines longest done) longest (left object v) in
+    let later = yields_of (behind_all lines longest done) longest coming in
     let test : Yielded → Bool = λ y. nat_le (y.start + y.len + (2 * longest + 5 * 65536)) upto in
-    let from : HeadFrom v.place later =
-    head_from (behind_all lines longest done) longest v.place (left object v) (cuts_from v.delimiter object v.place (v.stop - v.place)) in
+    let from : HeadFrom place later = head_from (behind_all lines longest done) longest place coming starts in
     let on = begins progress limit ys later s.unanswered in
-    let all : processed limit (yields_of lines longest places) ≡ ys ++ on.answered =
-    ap (processed limit) (ap (yields_of lines longest) split ∙ yields_of-append lines longest done (left object v)) ∙ on.goes_on in
-    let front = passing-front test ys on.answered (late longest upto v.place on.answered far (front-from v.place later on.answered on.unanswered on.split from)) in
+    let all : processed limit (yields_of lines longest cuts) ≡ ys ++ on.answered =
+    ap (processed limit) (ap (yields_of lines longest) split ∙ yields_of-append lines longest done coming) ∙ on.goes_on in
+    let front = passing-front test ys on.answered (late longest upto place on.answered far (front-from place later on.answered on.unanswered on.split from)) in
     let passing = take_while test (ys ++ on.answered) in
     let more = extends progress passing front.0 in
     let pieces : whole_frames wrap progress ys ≡ whole_frames wrap progress passing ++ wrapped_frames wrap more.more =
@@ -255,6 +254,9 @@ wrote_early begins extends wrap progress limit lines longest upto object places 
     })
 
 -- ---- the lines that a window has left
+
+pub left_from : (object : List ℕ) (v : View) → CutsFrom v.place (left object v)
+left_from object v = cuts_from v.delimiter object v.place (v.stop - v.place)
 
 -- a range within an object of 64 bits has fewer than 2^64 starts
 pub length-left : (object : List ℕ) (v : View) → v.stop ≤ v.size → v.size < 2 ^ 64 → length (left object v) < 2 ^ 64

@@ -7,7 +7,8 @@ use Rattle.line_window.specs.Cuts.{Cut, cuts}
 use Rattle.select_reply.specs.Yields.{Yielded}
 use Rattle.select_reply.specs.Answers.{is_answered, processed, shortest_front}
 use Rattle.record_stream.specs.Selected.{lies_in, first_of, selected_cuts, yields}
-use Rattle.record_stream.specs.Early.{UnreadAreLate}
+use Rattle.record_stream.specs.Quoted.{quoted_yields}
+use Rattle.record_stream.specs.Early.{UnreadAreLate, UnreadQuotedAreLate}
 use Rattle.record_stream.specs.Replied.{early}
 use Rattle.record_stream.proofs.BoundLaws.{HeadFrom, CutsFrom, head_from}
 
@@ -38,7 +39,7 @@ front_from n test (y ∷ ys) from =
     let P : Bool → Type 0 = λ b. HeadFrom n (if b then [] else y ∷ shortest_front (λ front. test (y ∷ front)) ys) in
     elim (test []) as P [ true ↦ tt | false ↦ from ]
 
-none_early : (longest n upto : ℕ) (ys : List Yielded) → upto ≤ n + (longest + 65538) → HeadFrom n ys → early longest upto ys ≡ []
+none_early : (longest n upto : ℕ) (ys : List Yielded) → upto ≤ n + (longest + 65541) → HeadFrom n ys → early longest upto ys ≡ []
 none_early longest n upto [] near from = refl
 none_early longest n upto (y ∷ ys) near from =
     let late : nat_le (y.start + y.len + (2 * longest + 5 * 65536)) upto ≡ false = lt-leb (y.start + y.len + (2 * longest + 5 * 65536)) upto (omega arith) in
@@ -47,5 +48,14 @@ none_early longest n upto (y ∷ ys) near from =
 pub unread_are_late : UnreadAreLate
 unread_are_late lines longest d object range limit upto near =
     let ys = yields lines longest d object range in
-    none_early longest (first_of range) upto (processed limit ys) near
+    none_early longest (first_of range) upto (processed limit ys) (omega (arith, near))
     (front_from (first_of range) (is_answered limit) ys (head_from lines longest (first_of range) (selected_cuts d object range) (selected_from d object range)))
+
+any_from : (ys : List Yielded) → HeadFrom 0 ys
+any_from [] = tt
+any_from (y ∷ ys) = omega arith
+
+pub unread_quoted_are_late : UnreadQuotedAreLate
+unread_quoted_are_late lines longest d object limit upto near =
+    let done = processed limit (quoted_yields lines longest d object) in
+    none_early longest 0 upto done (omega (arith, near)) (any_from done)

@@ -4,6 +4,7 @@ mod EarlyLaws
 mod Framing
 mod LineLaws
 mod LineStreams
+mod QuotedSteps
 mod RangeLaws
 mod SelectedLaws
 mod StreamLaws

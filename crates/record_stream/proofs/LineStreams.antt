@@ -79,17 +79,17 @@ module _ (on : EachStepsOn) (out : EachStepsOut) (stop : EachStops) (begins : Ea
 
   -- ---- a stream of cuts
 
-  module _ (object : List ℕ) (cuts : List Cut) (short : IsShort a.lines) (fits : EachFits a.lines a.longest cuts)
-      (v : View) (now : Lines) (last : ℕ) (begun : Begun) (before mid : Option (List ℕ)) (s : Streamed a object cuts v now last begun before mid) where
+  module _ (cuts : List Cut) (short : IsShort a.lines) (fits : EachFits a.lines a.longest cuts) (coming : List Cut)
+      (now : Lines) (last : ℕ) (begun : Begun) (before mid : Option (List ℕ)) (s : Streamed a cuts coming now last begun before mid) where
     abbrev done_yields : List Yielded
     done_yields = all_of a s.done
 
     -- the records of all cuts begin with those of the cuts done
     records_begin : (later : List Yielded) × (records_of a.lines a.longest cuts ≡ done_yields ++ later)
     records_begin =
-        let rest = yields_of (behind_all a.lines a.longest s.done) a.longest (left object v) in
+        let rest = yields_of (behind_all a.lines a.longest s.done) a.longest coming in
         let all : yields_of a.lines a.longest cuts ≡ done_yields ++ rest =
-        ap (yields_of a.lines a.longest) s.split ∙ yields_of-append a.lines a.longest s.done (left object v) in
+        ap (yields_of a.lines a.longest) s.split ∙ yields_of-append a.lines a.longest s.done coming in
         let more = ended_more (yields_of a.lines a.longest cuts) (end_of a.lines a.longest cuts) in (
           rest ++ more.0,
           more.1 ∙ ap (λ l. l ++ more.0) all ∙ append_assoc done_yields rest more.0,
@@ -102,11 +102,11 @@ module _ (on : EachStepsOn) (out : EachStepsOut) (stop : EachStops) (begins : Ea
         subst (λ (l : List Yielded). AppendsFront before mid (answer_frames a.wrap a.progress (processed a.limit l))) (sym all.1)
         (stands_front on out stop begins a done_yields begun before mid s.answered all.0)
 
-    passed_one : (p : Cut) (rest : List Cut) → left object v ≡ p ∷ rest → cuts ≡ (s.done ++ p ∷ []) ++ rest
+    passed_one : (p : Cut) (rest : List Cut) → coming ≡ p ∷ rest → cuts ≡ (s.done ++ p ∷ []) ++ rest
     passed_one p rest is = s.split ∙ ap (λ l. s.done ++ l) is ∙ sym (append_assoc s.done (p ∷ []) rest)
 
     -- the next cut, whose record yields, and what the records of all cuts are then
-    module _ (next : Lines) (p : Cut) (rest : List Cut) (here : left object v ≡ p ∷ rest) (z : Yielded) (is : gives now a.longest p ≡ z ∷ []) where
+    module _ (next : Lines) (p : Cut) (rest : List Cut) (here : coming ≡ p ∷ rest) (z : Yielded) (is : gives now a.longest p ≡ z ∷ []) where
       more_next : all_of a (s.done ++ p ∷ []) ≡ done_yields ++ z ∷ []
       more_next = yields_more a.lines a.longest s.done p now (z ∷ []) s.behind is
 
@@ -124,39 +124,37 @@ module _ (on : EachStepsOn) (out : EachStepsOut) (stop : EachStops) (begins : Ea
           )
 
     -- a turn was answered, and the reply goes on
-    turn_on : (w : View) (next : Lines) (turn : Turn) (after : Option (List ℕ)) → Holds object w
-        → Shows a.longest now next (left object v) (left object w) turn → turn_outcome begun turn ≡ None
+    turn_on : (rest : List Cut) (next : Lines) (turn : Turn) (after : Option (List ℕ))
+        → Shows a.longest now next coming rest turn → turn_outcome begun turn ≡ None
         → Appends mid after (wrapped_frames a.wrap (turn_events begun turn))
-        → Streamed a object cuts w next (last_behind last turn) (after_turn begun turn) before after
-    turn_on w next passes after holds shows goes added =
+        → Streamed a cuts rest next (last_behind last turn) (after_turn begun turn) before after
+    turn_on rest next passes after shows goes added =
         let more = yields_more a.lines a.longest s.done shows.0 now [] s.behind shows.3 ∙ append-nil done_yields in
         record {
-          holds = holds;
           done = s.done ++ shows.0 ∷ [];
-          split = passed_one shows.0 (left object w) shows.1;
+          split = passed_one shows.0 rest shows.1;
           behind = behind_more a.lines a.longest s.done shows.0 now next s.behind shows.2;
           last_is = s.last_is ∙ ap last_start (sym more);
           answered = stands_at a done_yields (all_of a (s.done ++ shows.0 ∷ [])) begun before after (sym more)
               (stands_on a done_yields begun before mid after s.answered added);
         }
-    turn_on w next (yields y) after holds shows goes added =
-        let more = more_next next shows.0 (left object w) shows.1 shows.3 shows.4 in
-        let fit = fits_next next shows.0 (left object w) shows.1 shows.3 shows.4 in
+    turn_on rest next (yields y) after shows goes added =
+        let more = more_next next shows.0 rest shows.1 shows.3 shows.4 in
+        let fit = fits_next next shows.0 rest shows.1 shows.3 shows.4 in
         record {
-          holds = holds;
           done = s.done ++ shows.0 ∷ [];
-          split = passed_one shows.0 (left object w) shows.1;
+          split = passed_one shows.0 rest shows.1;
           behind = behind_more a.lines a.longest s.done shows.0 now next s.behind shows.2;
           last_is = sym (ap last_start more ∙ last_of_more done_yields shows.3 ∙ shows.5.0);
           answered = stands_at a (done_yields ++ shows.3 ∷ []) (all_of a (s.done ++ shows.0 ∷ [])) (after_turn begun (yields y)) before after (sym more)
               (record_on on out stop begins a done_yields begun before mid s.answered y shows.3 shows.5 [] fit after goes added);
         }
-    turn_on w next ends after holds shows goes added = absurd shows
-    turn_on w next (closes y) after holds shows goes added = absurd shows
+    turn_on rest next ends after shows goes added = absurd shows
+    turn_on rest next (closes y) after shows goes added = absurd shows
 
     -- a turn ended the reply
     turn_ended : (next : Lines) (rest : List Cut) (turn : Turn) (after : Option (List ℕ)) (outcome : Outcome)
-        → Shows a.longest now next (left object v) rest turn → turn_outcome begun turn ≡ Some outcome
+        → Shows a.longest now next coming rest turn → turn_outcome begun turn ≡ Some outcome
         → Appends mid after (wrapped_frames a.wrap (turn_events begun turn))
         → Appends before after (answer_frames a.wrap a.progress (processed a.limit (records_of a.lines a.longest cuts)))
         × (outcome ≡ outcome_of (processed a.limit (records_of a.lines a.longest cuts)))
@@ -170,7 +168,7 @@ module _ (on : EachStepsOn) (out : EachStepsOut) (stop : EachStops) (begins : Ea
     turn_ended next rest (closes y) after outcome shows ended added = absurd shows
 
     -- a front of what a turn adds was written
-    turn_front : (next : Lines) (rest : List Cut) (turn : Turn) (after : Option (List ℕ)) → Shows a.longest now next (left object v) rest turn
+    turn_front : (next : Lines) (rest : List Cut) (turn : Turn) (after : Option (List ℕ)) → Shows a.longest now next coming rest turn
         → AppendsFront mid after (wrapped_frames a.wrap (turn_events begun turn))
         → AppendsFront before after (answer_frames a.wrap a.progress (processed a.limit (records_of a.lines a.longest cuts)))
     turn_front next rest passes after shows front =
@@ -186,10 +184,10 @@ module _ (on : EachStepsOn) (out : EachStepsOut) (stop : EachStops) (begins : Ea
     turn_front next rest (closes y) after shows front = absurd shows
 
     -- where no cut is left
-    all_done : left object v ≡ [] → cuts ≡ s.done
+    all_done : coming ≡ [] → cuts ≡ s.done
     all_done none = s.split ∙ ap (λ l. s.done ++ l) none ∙ append-nil s.done
 
-    records_done : left object v ≡ [] → records_of a.lines a.longest cuts ≡ ended_by done_yields (now.of_end [])
+    records_done : coming ≡ [] → records_of a.lines a.longest cuts ≡ ended_by done_yields (now.of_end [])
     records_done none =
         ap (records_of a.lines a.longest) (all_done none) ∙ ap (λ (l : Lines). ended_by done_yields (l.of_end [])) (sym s.behind)
 
@@ -197,54 +195,53 @@ module _ (on : EachStepsOn) (out : EachStepsOut) (stop : EachStops) (begins : Ea
     short_end = subst (λ (l : Lines). length (output_of (l.of_end [])) ≤ 33554432) (sym s.behind) ((short-all a.lines a.longest s.done short).end [])
 
     fits_done : Bounded done_yields
-    fits_done = fits s.done (left object v) s.split
+    fits_done = fits s.done coming s.split
 
     -- a line was answered, and the reply goes on
-    pub line_on : (w : View) (line : Line) (after : Option (List ℕ)) → Holds object w × IsNextCut a.longest (left object v) (left object w) line
+    pub line_on : (rest : List Cut) (line : Line) (after : Option (List ℕ)) → IsNextCut a.longest coming rest line
         → turn_outcome begun (turn_of now last line) ≡ None → Appends mid after (wrapped_frames a.wrap (turn_events begun (turn_of now last line)))
-        → Streamed a object cuts w (behind_line now line) (last_behind last (turn_of now last line)) (after_turn begun (turn_of now last line)) before after
-    line_on w (At start bytes whole) after next goes added =
-        turn_on w (behind_line now (At start bytes whole)) (turn_of now last (At start bytes whole)) after next.0
-        (line_shows now a.longest (left object v) (left object w) last (At start bytes whole) tt next.1) goes added
-    line_on w (TooLong start) after next goes added =
-        turn_on w (behind_line now (TooLong start)) (turn_of now last (TooLong start)) after next.0
-        (line_shows now a.longest (left object v) (left object w) last (TooLong start) tt next.1) goes added
-    line_on w End after next goes added = absurd (end_ends begun last (now.of_end []) goes)
+        → Streamed a cuts rest (behind_line now line) (last_behind last (turn_of now last line)) (after_turn begun (turn_of now last line)) before after
+    line_on rest (At start bytes whole) after next goes added =
+        turn_on rest (behind_line now (At start bytes whole)) (turn_of now last (At start bytes whole)) after
+        (line_shows now a.longest coming rest last (At start bytes whole) tt next) goes added
+    line_on rest (TooLong start) after next goes added =
+        turn_on rest (behind_line now (TooLong start)) (turn_of now last (TooLong start)) after
+        (line_shows now a.longest coming rest last (TooLong start) tt next) goes added
+    line_on rest End after next goes added = absurd (end_ends begun last (now.of_end []) goes)
 
     -- a line was answered, and the reply ended with it
-    pub line_ended : (rest : List Cut) (line : Line) (after : Option (List ℕ)) (outcome : Outcome) → IsNextCut a.longest (left object v) rest line
+    pub line_ended : (rest : List Cut) (line : Line) (after : Option (List ℕ)) (outcome : Outcome) → IsNextCut a.longest coming rest line
         → turn_outcome begun (turn_of now last line) ≡ Some outcome → Appends mid after (wrapped_frames a.wrap (turn_events begun (turn_of now last line)))
         → Appends before after (answer_frames a.wrap a.progress (processed a.limit (records_of a.lines a.longest cuts)))
         × (outcome ≡ outcome_of (processed a.limit (records_of a.lines a.longest cuts)))
     line_ended rest (At start bytes whole) after outcome next ended added =
         turn_ended (behind_line now (At start bytes whole)) rest (turn_of now last (At start bytes whole)) after outcome
-        (line_shows now a.longest (left object v) rest last (At start bytes whole) tt next) ended added
+        (line_shows now a.longest coming rest last (At start bytes whole) tt next) ended added
     line_ended rest (TooLong start) after outcome next ended added =
         turn_ended (behind_line now (TooLong start)) rest (turn_of now last (TooLong start)) after outcome
-        (line_shows now a.longest (left object v) rest last (TooLong start) tt next) ended added
+        (line_shows now a.longest coming rest last (TooLong start) tt next) ended added
     line_ended rest End after outcome next ended added =
         subst (λ (l : List Yielded). Appends before after (answer_frames a.wrap a.progress (processed a.limit l)) × (outcome ≡ outcome_of (processed a.limit l))) (sym (records_done next.0))
         (end_whole done_yields begun before mid s.answered fits_done last s.last_is (now.of_end []) short_end after outcome ended added)
 
     -- a front of what a line adds was written
-    pub line_front : (rest : List Cut) (line : Line) (after : Option (List ℕ)) → IsNextCut a.longest (left object v) rest line
+    pub line_front : (rest : List Cut) (line : Line) (after : Option (List ℕ)) → IsNextCut a.longest coming rest line
         → AppendsFront mid after (wrapped_frames a.wrap (turn_events begun (turn_of now last line)))
         → AppendsFront before after (answer_frames a.wrap a.progress (processed a.limit (records_of a.lines a.longest cuts)))
     line_front rest (At start bytes whole) after next front =
         turn_front (behind_line now (At start bytes whole)) rest (turn_of now last (At start bytes whole)) after
-        (line_shows now a.longest (left object v) rest last (At start bytes whole) tt next) front
+        (line_shows now a.longest coming rest last (At start bytes whole) tt next) front
     line_front rest (TooLong start) after next front =
         turn_front (behind_line now (TooLong start)) rest (turn_of now last (TooLong start)) after
-        (line_shows now a.longest (left object v) rest last (TooLong start) tt next) front
+        (line_shows now a.longest coming rest last (TooLong start) tt next) front
     line_front rest End after next front =
         subst (λ (l : List Yielded). AppendsFront before after (answer_frames a.wrap a.progress (processed a.limit l))) (sym (records_done next.0))
         (end_front done_yields begun before mid s.answered fits_done last s.last_is (now.of_end []) short_end after front)
 
 -- before any cut
-pub stream_begins : (a : Asking) (object : List ℕ) (v : View) (last : ℕ) (begun : Begun) (before : Option (List ℕ)) → is_answered a.limit [] ≡ false → Holds object v
-    → begun ≡ unbegun a.progress a.limit → last ≡ 0 → Streamed a object (left object v) v a.lines last begun before before
-stream_begins a object v last begun before open_ holds fresh zero_ = record {
-  holds = holds;
+pub stream_begins : (a : Asking) (cuts : List Cut) (last : ℕ) (begun : Begun) (before : Option (List ℕ)) → is_answered a.limit [] ≡ false
+    → begun ≡ unbegun a.progress a.limit → last ≡ 0 → Streamed a cuts cuts a.lines last begun before before
+stream_begins a cuts last begun before open_ fresh zero_ = record {
   done = [];
   split = refl;
   behind = refl;
@@ -253,10 +250,9 @@ stream_begins a object v last begun before open_ holds fresh zero_ = record {
 }
 
 -- the reply's state and what is behind the lines, as the code names them
-pub streamed_as : (a : Asking) (object : List ℕ) (cuts : List Cut) (v : View) (now next : Lines) (last later : ℕ) (begun again : Begun) (before mid : Option (List ℕ))
-    → next ≡ now → later ≡ last → again ≡ begun → Streamed a object cuts v now last begun before mid → Streamed a object cuts v next later again before mid
-streamed_as a object cuts v now next last later begun again before mid same place begins_ s = record {
-  holds = s.holds;
+pub streamed_as : (a : Asking) (cuts coming : List Cut) (now next : Lines) (last later : ℕ) (begun again : Begun) (before mid : Option (List ℕ))
+    → next ≡ now → later ≡ last → again ≡ begun → Streamed a cuts coming now last begun before mid → Streamed a cuts coming next later again before mid
+streamed_as a cuts coming now next last later begun again before mid same place begins_ s = record {
   done = s.done;
   split = s.split;
   behind = same ∙ s.behind;

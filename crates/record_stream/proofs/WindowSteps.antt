@@ -50,7 +50,7 @@ took_at_most zero a b took = let same = took.none refl in omega arith
 took_at_most (suc n) a b took = let rose = took.some (omega arith) in omega arith
 
 -- no more was read than lies before the place and in the buffer, and as much as a header may have
-pub read_near : (v : View) (longest upto : ℕ) → IsSound v → v.longest ≡ longest → upto ≤ v.upto + (longest + 65540)
+pub read_near : (v : View) (longest upto : ℕ) → IsSound v → v.longest ≡ longest → upto ≤ v.upto + (longest + 65541)
     → upto < v.place + (2 * longest + 5 * 65536)
 read_near v longest upto sound is within =
     let kept = sound.kept in

@@ -6,3 +6,4 @@ pub mod Tiling
 pub mod Turns
 pub mod LineTurns
 pub mod Streaming
+pub mod Quoted

@@ -1,5 +1,5 @@
 //! Laws of tilings, and of records that nothing was read of.
-ghost use Rattle.record_stream.specs.Early.{UnreadAreLate};
+ghost use Rattle.record_stream.specs.Early.{UnreadAreLate, UnreadQuotedAreLate};
 ghost use Rattle.record_stream.specs.Tiling.{EachLineIsInOneTile, EachRangeSelects, EachTilingJoins, EachTilingMakesTheWhole};
 
 use line_window::adjacent_ranges_append;
@@ -21,4 +21,9 @@ pub fn tiles_have_each_record_once()
 /// Where nothing was read of a range, and no more than a header before it, none of its records is early.
 pub fn unread_records_are_late()
     ensures { UnreadAreLate }
+{}
+
+/// Where no more than a header was read of an object whose quoted fields may hold record delimiters, none of its records is early.
+pub fn unread_quoted_records_are_late()
+    ensures { UnreadQuotedAreLate }
 {}

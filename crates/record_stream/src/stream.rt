@@ -129,7 +129,7 @@ fn answer_lines<S: Store, K: FrameSink, Y: LineYields>(
 }
 
 // Ends a reply before any line.
-fn end_lines<K: FrameSink, Y: LineYields>(
+pub(crate) fn end_lines<K: FrameSink, Y: LineYields>(
     reply: &mut ReplyWriter,
     out: &mut K,
     lines: &mut Y,
@@ -155,7 +155,10 @@ fn end_lines<K: FrameSink, Y: LineYields>(
 }
 
 // Ends a reply that allows no output.
-fn answer_none<K: FrameSink>(reply: &mut ReplyWriter, out: &mut K) -> Result<Outcome, StreamError>
+pub(crate) fn answer_none<K: FrameSink>(
+    reply: &mut ReplyWriter,
+    out: &mut K,
+) -> Result<Outcome, StreamError>
     requires fresh { reply.old ≡ unbegun reply.old.progress reply.old.left }
     ensures reply { Answers K.wrap reply.old.progress [] (K.written out.old) (K.written out.new) result }
     ensures cause { IfErr result (HasStreamCause 0 0 (K.faults out.old) (K.faults out.new)) }

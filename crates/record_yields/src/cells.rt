@@ -9,7 +9,7 @@ ghost use Rattle.record_yields.specs.Yields.{of_all, of_cells};
 
 use crate::codes::value_code;
 use crate::names::column_name;
-use crate::values::{add_named, fault_of};
+use crate::values::{add_cell, fault_of};
 use crate::whole::write_json;
 use crate::writing::{RowYield, finish};
 use record_output::{Out, OutFault};
@@ -39,7 +39,7 @@ fn write_cells<R: Row>(out: &mut Out, columns: &Columns, row: &R) -> RowYield
     let width = row.width();
     let mut k = 0;
     'cells: while k < width {
-        match add_named(out, column_name(columns, k), k, &row.cell(k)) {
+        match add_cell(out, column_name(columns, k), k, row) {
             Ok(()) => {}
             Err(OutFault::Value(fault)) => return RowYield::Fault(value_code(fault)),
             Err(OutFault::OverMaxRecordSize) => {

@@ -2,3 +2,4 @@ mod Gives
 pub mod Walks
 mod Stepping
 mod Read
+mod Texts

@@ -1,7 +1,10 @@
 //! Comparisons of literals and cells, which look at lent texts first and make no value of a row.
 ghost use Rattle.std.specs.Prelude.{◌≡◌, IfSome, Ok, Option};
 ghost use Rattle.std.specs.Str.{chars};
+ghost use Rattle.text_view.specs.Finding.{like};
 ghost use Rattle.sql_value.specs.Outcomes.{Outcome};
+ghost use Rattle.sql_value.specs.Compared.{order_of, known};
+ghost use Rattle.sql_functions.specs.Texts.{like_truth};
 ghost use Rattle.sql_eval.specs.Evaluated.{settling, as_value};
 ghost use Rattle.sql_eval.specs.Logic.{comparison, liked};
 ghost use Rattle.sql_eval.specs.Leaves.{IsLeaf, leaves_order};
@@ -14,10 +17,10 @@ use crate::rows::Row;
 use crate::truths::{holds, negated_if};
 use sql_bound::Bound;
 use sql_decimal::{Dec, Num};
-use sql_functions::like;
 use sql_grammar::{CastTarget, CompareOp, PathStep};
 use sql_timestamp::ValueFault;
 use sql_value::{Order, Value, compare};
+use std::cmp::Ordering;
 use text_view::{Pattern, Text};
 use value_text::ValueText;
 
@@ -117,7 +120,7 @@ fn order_of_int(left: i64, right: Leaf<'_>) -> Option<Order>
     ensures { result ≡ leaves_order (Leaf.Int left) right.entry }
 {
     match right {
-        Leaf::Int(right) => Some(compare(&Value::Int(left), &Value::Int(right))),
+        Leaf::Int(right) => Some(order_of_ints(left, right)),
         Leaf::Text(right) => Some(compare(&Value::Int(left), &value_of(right))),
         Leaf::Other => None,
     }
@@ -129,9 +132,52 @@ fn order_of_text(left: &str, right: Leaf<'_>) -> Option<Order>
 {
     match right {
         Leaf::Int(right) => Some(compare(&value_of(left), &Value::Int(right))),
-        Leaf::Text(right) => Some(compare(&value_of(left), &value_of(right))),
+        Leaf::Text(right) => Some(order_of_texts(left, right)),
         Leaf::Other => None,
     }
+}
+
+/// The order of whole numbers, with no value made of them.
+#[tactic(auto, using(sql_value::proofs::Orders::whole_order), unfolding(sql_value::specs::Compared::order_of))]
+#[inline]
+fn order_of_ints(left: i64, right: i64) -> Order
+    ensures { result ≡ order_of (Value.Int left) (Value.Int right) }
+{
+    known_order(left.cmp(&right))
+}
+
+/// The order of texts: that of their bytes.
+#[inline]
+fn order_of_texts(left: &str, right: &str) -> Order
+    ensures { result ≡ order_of (Value.Text (chars left.now)) (Value.Text (chars right.now)) }
+{
+    known_order(left.as_bytes().cmp(right.as_bytes()))
+}
+
+#[inline]
+fn known_order(ordering: Ordering) -> Order
+    ensures { result ≡ known ordering }
+{
+    match ordering {
+        Ordering::Less => Order::Less,
+        Ordering::Equal => Order::Equal,
+        Ordering::Greater => Order::Greater,
+    }
+}
+
+/// LIKE of a lent text.
+#[inline]
+fn like_text(text: &str, pattern: &Pattern) -> Result<Option<bool>, ValueFault>
+    ensures { result ≡ like_truth pattern.now (Value.Text (chars text.now)) }
+{
+    Ok(Some(matches(text, pattern)))
+}
+
+#[inline]
+fn matches(text: &str, pattern: &Pattern) -> bool
+    ensures { result ≡ like pattern.now (chars text.now) }
+{
+    pattern.matches_str(text)
 }
 
 #[inline]
@@ -168,7 +214,7 @@ fn match_leaf<'r, R: Row>(
     ensures { IfSome result (λ t. liked (meaning (R.cells row.now) value.now) pattern.now ≡ t) }
 {
     match leaf_of(value, row) {
-        Leaf::Text(text) => Some(like(&value_of(text), pattern)),
+        Leaf::Text(text) => Some(like_text(text, pattern)),
         _ => None,
     }
 }

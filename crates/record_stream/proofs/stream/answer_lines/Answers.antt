@@ -8,7 +8,7 @@ use Rattle.record_stream.specs.Streaming.{asking}
 use Rattle.record_stream.specs.Turns.{after_turn}
 use Rattle.record_stream.proofs.StreamLaws.{open_after, free_unanswered}
 use Rattle.record_stream.proofs.LineStreams.{stream_begins, stream_front, streamed_as, window_fits, line_on, line_ended, line_front}
-use Rattle.record_stream.proofs.BoundLaws.{wrote_early}
+use Rattle.record_stream.proofs.BoundLaws.{wrote_early, left_from}
 use Rattle.record_stream.proofs.WindowSteps.{open_stays, rules_stay, same_rules, took_none, took_more, took_at_most, given, not_given, read_near}
 use Rattle.record_stream.proofs.stream.answer_lines.Goals as goal
 
@@ -32,9 +32,12 @@ turns-init g c =
       out_faults = omega arith;
       rest = refl;
       told = λ object tells holds.
-          stream_begins (asking g.K.FrameSink.wrap reply.progress reply.left (g.Y.LineYields.lines c.args.lines.now) window.longest) object window
-          (g.Y.LineYields.last c.args.lines.now) reply (g.K.FrameSink.written c.args.out.now)
-          (free_unanswered reply.left c.requires.free) holds c.requires.fresh c.requires.begins;
+          record {
+            holds = holds;
+            streamed = stream_begins (asking g.K.FrameSink.wrap reply.progress reply.left (g.Y.LineYields.lines c.args.lines.now) window.longest) (left object window)
+                (g.Y.LineYields.last c.args.lines.now) reply (g.K.FrameSink.written c.args.out.now)
+                (free_unanswered reply.left c.requires.free) c.requires.fresh c.requires.begins;
+          };
     }
 
 pub returns-in-Err-clause-reply : goal.returns-in-Err-clause-reply
@@ -43,9 +46,9 @@ returns-in-Err-clause-reply g c = λ object tells holds.
     let window = c.args.window.now in
     let reply = c.args.reply.now in
     let lines = g.Y.LineYields.lines c.args.lines.now in
-    stream_front law.on law.out law.stop law.begins (asking g.K.FrameSink.wrap reply.progress reply.left lines window.longest) object (left object window)
+    stream_front law.on law.out law.stop law.begins (asking g.K.FrameSink.wrap reply.progress reply.left lines window.longest) (left object window)
     c.requires.short (window_fits lines window.longest object window c.requires.short c.requires.sound.limit c.requires.within c.requires.small holds)
-    c.turns.window (g.Y.LineYields.lines c.turns.lines) (g.Y.LineYields.last c.turns.lines) c.turns.reply _ _ (c.turns.invariant.told object tells holds)
+    (left object c.turns.window) (g.Y.LineYields.lines c.turns.lines) (g.Y.LineYields.last c.turns.lines) c.turns.reply _ _ (c.turns.invariant.told object tells holds).streamed
 
 pub returns-in-Err-clause-early : goal.returns-in-Err-clause-early
 returns-in-Err-clause-early g c = λ object upto tells holds few is.
@@ -60,8 +63,9 @@ returns-in-Err-clause-early g c = λ object upto tells holds few is.
     let still = not_given _ c.turns.window w c.next.result c.in-Err.field-0 _ _ object t c.in-Err.is _ i.current tells s.holds in
     let read = took_at_most _ _ _ (took_more _ _ (w.upto - window.upto) _ _ _ (omega (arith, t.forward, i.forward)) i.taken t.taken) in
     let rules = rules_stay _ _ _ i.rules t.rules in
-    wrote_early law.begins law.extends g.K.FrameSink.wrap reply.progress reply.left lines window.longest _ object (left object window) s.done w c.turns.reply _ _
-    (s.split ∙ ap (λ l. s.done ++ l) (sym still.1)) s.answered
+    let done = s.streamed.done in
+    wrote_early law.begins law.extends g.K.FrameSink.wrap reply.progress reply.left lines window.longest _ w.place (left object window) done (left object w) c.turns.reply _ _
+    (s.streamed.split ∙ ap (λ l. done ++ l) (sym still.1)) (left_from object w) s.streamed.answered
     (read_near w window.longest upto t.sound rules.longest (omega (arith, few, read, c.requires.near, t.forward, i.forward)))
 
 pub turns-preserved : goal.turns-preserved
@@ -99,13 +103,16 @@ turns-preserved g c =
           let next = given _ c.turns.window w c.next.result line _ _ object t c.in-Ok.is _ i.current tells s.holds in
           let cut : IsNextCut window.longest (left object c.turns.window) (left object w) line =
           subst (λ n. IsNextCut n (left object c.turns.window) (left object w) line) i.rules.longest next.1 in
-          streamed_as a object (left object window) w (behind_line now line) (g.Y.LineYields.lines c.answer.new.self)
-          (last_behind last (turn_of now last line)) (g.Y.LineYields.last c.answer.new.self) (after_turn c.turns.reply (turn_of now last line)) c.answer.new.reply
-          (g.K.FrameSink.written c.args.out.now) (g.K.FrameSink.written c.answer.new.out)
-          (c.in-Ok-None.ensures.behind c.in-Ok-None.field-0-is) (c.in-Ok-None.ensures.last c.in-Ok-None.field-0-is) after
-          (line_on law.on law.out law.stop law.begins a object (left object window)
-          c.requires.short (window_fits lines window.longest object window c.requires.short c.requires.sound.limit c.requires.within c.requires.small holds)
-          c.turns.window now last c.turns.reply _ _ s w line _ (next.0, cut) goes c.in-Ok-None.ensures.bytes);
+          record {
+            holds = next.0;
+            streamed = streamed_as a (left object window) (left object w) (behind_line now line) (g.Y.LineYields.lines c.answer.new.self)
+                (last_behind last (turn_of now last line)) (g.Y.LineYields.last c.answer.new.self) (after_turn c.turns.reply (turn_of now last line)) c.answer.new.reply
+                (g.K.FrameSink.written c.args.out.now) (g.K.FrameSink.written c.answer.new.out)
+                (c.in-Ok-None.ensures.behind c.in-Ok-None.field-0-is) (c.in-Ok-None.ensures.last c.in-Ok-None.field-0-is) after
+                (line_on law.on law.out law.stop law.begins a (left object window)
+                c.requires.short (window_fits lines window.longest object window c.requires.short c.requires.sound.limit c.requires.within c.requires.small holds)
+                (left object c.turns.window) now last c.turns.reply _ _ s.streamed (left object w) line _ cut goes c.in-Ok-None.ensures.bytes);
+          };
     }
 
 pub returns-in-Ok-Some-clause-reply : goal.returns-in-Ok-Some-clause-reply
@@ -122,9 +129,9 @@ returns-in-Ok-Some-clause-reply g c = λ object tells holds.
     let next = given _ c.turns.window w c.next.result line _ _ object t c.in-Ok.is _ i.current tells s.holds in
     let cut : IsNextCut window.longest (left object c.turns.window) (left object w) line =
     subst (λ n. IsNextCut n (left object c.turns.window) (left object w) line) i.rules.longest next.1 in
-    line_ended law.on law.out law.stop law.begins (asking g.K.FrameSink.wrap reply.progress reply.left lines window.longest) object (left object window)
+    line_ended law.on law.out law.stop law.begins (asking g.K.FrameSink.wrap reply.progress reply.left lines window.longest) (left object window)
     c.requires.short (window_fits lines window.longest object window c.requires.short c.requires.sound.limit c.requires.within c.requires.small holds)
-    c.turns.window (g.Y.LineYields.lines c.turns.lines) (g.Y.LineYields.last c.turns.lines) c.turns.reply _ _ s (left object w) line _ c.in-Ok-Some.outcome cut
+    (left object c.turns.window) (g.Y.LineYields.lines c.turns.lines) (g.Y.LineYields.last c.turns.lines) c.turns.reply _ _ s.streamed (left object w) line _ c.in-Ok-Some.outcome cut
     (sym c.in-Ok-Some.ensures.outcome ∙ c.in-Ok-Some.field-0-is) c.in-Ok-Some.ensures.bytes
 
 pub returns-in-Err-answer-clause-reply : goal.returns-in-Err-answer-clause-reply
@@ -141,9 +148,9 @@ returns-in-Err-answer-clause-reply g c = λ object tells holds.
     let next = given _ c.turns.window w c.next.result line _ _ object t c.in-Ok.is _ i.current tells s.holds in
     let cut : IsNextCut window.longest (left object c.turns.window) (left object w) line =
     subst (λ n. IsNextCut n (left object c.turns.window) (left object w) line) i.rules.longest next.1 in
-    line_front law.on law.out law.stop law.begins (asking g.K.FrameSink.wrap reply.progress reply.left lines window.longest) object (left object window)
+    line_front law.on law.out law.stop law.begins (asking g.K.FrameSink.wrap reply.progress reply.left lines window.longest) (left object window)
     c.requires.short (window_fits lines window.longest object window c.requires.short c.requires.sound.limit c.requires.within c.requires.small holds)
-    c.turns.window (g.Y.LineYields.lines c.turns.lines) (g.Y.LineYields.last c.turns.lines) c.turns.reply _ _ s (left object w) line _ cut
+    (left object c.turns.window) (g.Y.LineYields.lines c.turns.lines) (g.Y.LineYields.last c.turns.lines) c.turns.reply _ _ s.streamed (left object w) line _ cut
     c.in-Err-answer.ensures.bytes
 
 pub returns-in-Err-clause-rules : goal.returns-in-Err-clause-rules

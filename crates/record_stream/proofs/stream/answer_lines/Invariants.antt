@@ -3,7 +3,7 @@ use Rattle.std.specs.Prelude.{max}
 use Rattle.select_ports.specs.Stored.{IsOpen}
 use Rattle.line_window.specs.Sliding.{Tells, Holds, IsSound, SameRules, Took, left}
 use Rattle.select_reply.specs.Begun.{is_full}
-use Rattle.record_stream.specs.Streaming.{asking, Streamed}
+use Rattle.record_stream.specs.Streaming.{asking, LinesStreamed}
 use Rattle.record_stream.proofs.stream.answer_lines.Given as goal
 
 abbrev pub invariant-turns : goal.invariant-turns
@@ -23,7 +23,7 @@ invariant-turns g l = record {
   out_faults : g.K.FrameSink.faults l.initial.out ≤ g.K.FrameSink.faults l.out;
   rest : g.K.FrameSink.rest l.out ≡ g.K.FrameSink.rest l.initial.out;
   told : (object : List ℕ) → Tells (g.S.Store.current l.initial.store) object → Holds object l.initial.window
-      → Streamed (asking g.K.FrameSink.wrap l.initial.reply.progress l.initial.reply.left (g.Y.LineYields.lines l.initial.lines) l.initial.window.longest)
+      → LinesStreamed (asking g.K.FrameSink.wrap l.initial.reply.progress l.initial.reply.left (g.Y.LineYields.lines l.initial.lines) l.initial.window.longest)
       object (left object l.initial.window) l.window (g.Y.LineYields.lines l.lines) (g.Y.LineYields.last l.lines) l.reply
       (g.K.FrameSink.written l.initial.out) (g.K.FrameSink.written l.out);
 }

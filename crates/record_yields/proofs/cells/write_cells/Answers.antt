@@ -1,5 +1,6 @@
 use Rattle.std.specs.Str.{chars}
-use Rattle.std.proofs.Common.{◌<◌, ◌≤◌, ◌+◌, Ok, suc, length, drop, ap, sym, ◌∙◌, arith}
+use Rattle.std.proofs.Common.{◌<◌, ◌≤◌, ◌+◌, Ok, suc, length, drop, refl, ap, sym, ◌∙◌, arith}
+use Rattle.sql_eval.specs.Rows.{cell_at}
 use Rattle.scan_plan.specs.Plans.{name_or_number}
 use Rattle.record_yields.specs.Codes.{value_code}
 use Rattle.record_yields.specs.Names.{name_at, column_names}
@@ -11,7 +12,7 @@ returns-in-Err-Value-clause-yields g c =
     let cells = g.R.Row.cells c.args.row.now in
     let here : c.cells.k < length cells = omega (arith, c.width-width.ensures, c.cells-test.true) in
     step_fault (name_at (column_names c.args.columns.now)) (outcomes cells) (outcomes (drop c.cells.k cells)) c.cells.k c.cells.out c.cells.invariant.passed
-    c.add_named.new.out (Ok c.cell.result) (outcomes (drop (c.cells.k + 1) cells)) (cell_next cells c.cells.k c.cell.result here c.cell.ensures)
+    c.add_cell.new.out (Ok (cell_at cells c.cells.k)) (outcomes (drop (c.cells.k + 1) cells)) (cell_next cells c.cells.k (cell_at cells c.cells.k) here refl)
     _ (ap (λ n. chars (name_or_number (suc c.cells.k) n)) c.column_name.ensures)
     c.in-Err-Value.field-0 c.in-Err-Value.fault c.in-Err-Value.field-0-is c.in-Err-Value.ensures
     c.args.out.now.output c.args.out.now.longest c.value_code.result (c.value_code.ensures ∙ ap value_code (sym c.in-Err-Value.fault-is))
@@ -21,7 +22,7 @@ returns-in-Err-OverMaxRecordSize-clause-yields g c =
     let cells = g.R.Row.cells c.args.row.now in
     let here : c.cells.k < length cells = omega (arith, c.width-width.ensures, c.cells-test.true) in
     step_over (name_at (column_names c.args.columns.now)) (outcomes cells) (outcomes (drop c.cells.k cells)) c.cells.k c.cells.out c.cells.invariant.passed
-    c.add_named.new.out (Ok c.cell.result) (outcomes (drop (c.cells.k + 1) cells)) (cell_next cells c.cells.k c.cell.result here c.cell.ensures)
+    c.add_cell.new.out (Ok (cell_at cells c.cells.k)) (outcomes (drop (c.cells.k + 1) cells)) (cell_next cells c.cells.k (cell_at cells c.cells.k) here refl)
     _ (ap (λ n. chars (name_or_number (suc c.cells.k) n)) c.column_name.ensures)
     c.in-Err-OverMaxRecordSize.field-0 c.in-Err-OverMaxRecordSize.field-0-is c.in-Err-OverMaxRecordSize.ensures
     c.args.out.now c.cells.invariant.settings c.over_unless_faulty.result c.over_unless_faulty.ensures
@@ -31,10 +32,10 @@ cells-preserved g c =
     let cells = g.R.Row.cells c.args.row.now in
     let here : c.cells.k < length cells = omega (arith, c.width-width.ensures, c.cells-test.true) in
     record {
-      settings = settings_stay c.args.out.now c.cells.out c.add_named.new.out c.cells.invariant.settings c.add_named.ensures.settings;
+      settings = settings_stay c.args.out.now c.cells.out c.add_cell.new.out c.cells.invariant.settings c.add_cell.ensures.settings;
       passed =
           step_ok (name_at (column_names c.args.columns.now)) (outcomes cells) (outcomes (drop c.cells.k cells)) c.cells.k c.cells.out c.cells.invariant.passed
-          c.add_named.new.out (Ok c.cell.result) (outcomes (drop (c.cells.k + 1) cells)) (cell_next cells c.cells.k c.cell.result here c.cell.ensures)
+          c.add_cell.new.out (Ok (cell_at cells c.cells.k)) (outcomes (drop (c.cells.k + 1) cells)) (cell_next cells c.cells.k (cell_at cells c.cells.k) here refl)
           _ (ap (λ n. chars (name_or_number (suc c.cells.k) n)) c.column_name.ensures) c.in-Ok.field-0 c.in-Ok.ensures;
     }
 

@@ -1,0 +1,4 @@
+mod Bits
+mod Sizes
+mod Turns
+mod Counts

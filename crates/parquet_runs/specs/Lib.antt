@@ -1,0 +1,2 @@
+pub mod Hybrid
+pub mod Cursors
