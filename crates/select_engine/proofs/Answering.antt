@@ -9,10 +9,8 @@ use Rattle.select_reply.specs.Turns.{yielded}
 use Rattle.select_reply.specs.Answers.{shortest_front, processed, totals_record, unless_faulty, processed_with_totals, TotalsAreOneMore}
 use Rattle.sql_totals.specs.Partials.{Partial}
 use Rattle.record_stream.specs.Lines.{ended_by}
-use Rattle.record_stream.specs.Selected.{selected_cuts}
 use Rattle.planned_lines.specs.LineYields.{has_aggregates, no_totals, totals_with_all, rows_of, totals_record as record_of_totals, PlannedLinesEndWithTotals}
 use Rattle.record_rows.specs.Formats.{format_of, line_delimiter}
-use Rattle.scan_ranges.specs.Resolved.{resolved}
 use Rattle.select_ports.specs.Streams.{AppendsFront}
 use Rattle.std.proofs.KnownBytes.{Appends-nil}
 use Rattle.record_rows.specs.declared.format.LineFormat.{LineFormat}
@@ -20,6 +18,7 @@ use Rattle.planned_lines.specs.declared.planned.Planned.{Planned}
 use Rattle.object_plan.specs.Planning.{planned_over}
 use Rattle.select_request.specs.declared.request.SelectRequest.{SelectRequest}
 use Rattle.sql_grammar.specs.declared.tree.Query.{Query}
+use Rattle.select_engine.specs.Chosen.{chosen_cuts}
 use Rattle.select_engine.specs.Answered.{answered_with, answered_by, answered_in, answered, totals_over, yields_over}
 use Rattle.select_engine.specs.Due.{limit_unless_totals, limit_of, records_over}
 
@@ -76,7 +75,7 @@ module _ (law : TotalsAreOneMore) (ends : PlannedLinesEndWithTotals) (longest : 
   streamed_is : processed (limit_of p.plan) (records_over format p longest object request)
       ≡ answered_with p.plan.limit (yields_over format p longest object request) (totals_over format p longest object request)
   streamed_is =
-      let cuts = selected_cuts (line_delimiter format) object (resolved request.range (length object)) in
+      let cuts = chosen_cuts (line_delimiter format) request object in
       let ys = yields_over format p longest object request in
       ap (λ e. processed (limit_of p.plan) (ended_by ys e)) (ends format p.columns p.plan request.output longest cuts)
       ∙ answered_is law p.plan.items p.plan.limit p.plan.names request.output longest

@@ -1,7 +1,6 @@
 -- What a query means over an object: the records that it processes, or the code that ends it before the first.
-use Rattle.std.specs.Prelude.{ℕ, List, [], ◌∷◌, length, Bool, Option, None, Some, Result, Ok, Err}
+use Rattle.std.specs.Prelude.{ℕ, List, [], ◌∷◌, Bool, Option, None, Some, Result, Ok, Err}
 use Rattle.event_frame.specs.Event.{Event}
-use Rattle.scan_ranges.specs.Resolved.{resolved}
 use Rattle.select_request.specs.declared.request.SelectRequest.{SelectRequest}
 use Rattle.sql_grammar.specs.declared.tree.Query.{Query}
 use Rattle.select_reply.specs.declared.code.Code.{Code}
@@ -14,26 +13,27 @@ use Rattle.select_reply.specs.Events.{error_event, answer_events}
 use Rattle.select_reply.specs.Replies.{outcome_of}
 use Rattle.record_rows.specs.Formats.{format_of, line_delimiter}
 use Rattle.record_rows.specs.declared.format.LineFormat.{LineFormat}
-use Rattle.record_stream.specs.Selected.{selected_cuts, yields}
+use Rattle.record_stream.specs.Lines.{yields_of}
 use Rattle.planned_lines.specs.LineYields.{no_totals, totals_with_all, rows_of, totals_record, lines_of}
 use Rattle.planned_lines.specs.declared.planned.Planned.{Planned}
 use Rattle.object_plan.specs.Planning.{planned_over}
 use Rattle.select_job.specs.declared.asked.Asked.{Asked}
 use Rattle.select_job.specs.declared.asked.Asked.TheVariants.{Refused, Asks}
+use Rattle.select_engine.specs.Chosen.{chosen_cuts}
 
 -- ---- the records
 
--- what the records that start in the request's range yield
+-- what the records that the request asks for yield
 abbrev pub yields_over : LineFormat → Planned → ℕ → List ℕ → SelectRequest → List Yielded
 yields_over format p longest object request =
-    yields (lines_of format p.columns p.plan request.output longest) longest (line_delimiter format) object (resolved request.range (length object))
+    yields_of (lines_of format p.columns p.plan request.output longest) longest (chosen_cuts (line_delimiter format) request object)
 
 -- with aggregates, what the record of the totals yields that have the rows of these records, one after the other
 abbrev pub totals_over : LineFormat → Planned → ℕ → List ℕ → SelectRequest → Option Yield
 totals_over format p longest object request =
     totals_record p.plan.items p.plan.names request.output longest
     (totals_with_all p.plan.items p.plan.filter
-    (rows_of format longest (selected_cuts (line_delimiter format) object (resolved request.range (length object))))
+    (rows_of format longest (chosen_cuts (line_delimiter format) request object))
     (no_totals p.plan.items))
 
 -- records are processed up to the limit or the first code; with aggregates up to a code, and else the record of totals follows them

@@ -1,6 +1,6 @@
 -- The records whose output is due while an object is read: those that a query processes, without the record of totals, which stands behind
 -- the last of them.
-use Rattle.std.specs.Prelude.{ℕ, zero, suc, Bool, true, false, List, length, Option, None, Some, Result, Ok, Err}
+use Rattle.std.specs.Prelude.{ℕ, zero, suc, Bool, true, false, List, Option, None, Some, Result, Ok, Err}
 use Rattle.select_request.specs.declared.request.SelectRequest.{SelectRequest}
 use Rattle.sql_grammar.specs.declared.tree.Query.{Query}
 use Rattle.scan_plan.specs.declared.plans.Plan.{Plan}
@@ -8,14 +8,14 @@ use Rattle.select_reply.specs.declared.code.Code.{Code}
 use Rattle.select_reply.specs.declared.code.Code.TheVariants.{NotBuilt}
 use Rattle.select_reply.specs.Yields.{Yielded}
 use Rattle.select_reply.specs.Answers.{processed}
-use Rattle.scan_ranges.specs.Resolved.{resolved}
 use Rattle.record_rows.specs.Formats.{format_of, line_delimiter}
 use Rattle.record_rows.specs.declared.format.LineFormat.{LineFormat}
-use Rattle.record_stream.specs.Selected.{records}
+use Rattle.record_stream.specs.Lines.{records_of}
 use Rattle.planned_lines.specs.LineYields.{has_aggregates, lines_of}
 use Rattle.planned_lines.specs.declared.planned.Planned.{Planned}
 use Rattle.object_plan.specs.Planning.{planned_over}
 use Rattle.select_engine.specs.Answered.{yields_over}
+use Rattle.select_engine.specs.Chosen.{chosen_cuts}
 
 -- with aggregates only a limit of 0 ends the records
 abbrev pub limit_unless_totals : Bool → Option ℕ → Option ℕ
@@ -30,7 +30,7 @@ limit_of plan = limit_unless_totals (has_aggregates plan.items) plan.limit
 -- the records with the one that stands behind the last of them, if there is one
 abbrev pub records_over : LineFormat → Planned → ℕ → List ℕ → SelectRequest → List Yielded
 records_over format p longest object request =
-    records (lines_of format p.columns p.plan request.output longest) longest (line_delimiter format) object (resolved request.range (length object))
+    records_of (lines_of format p.columns p.plan request.output longest) longest (chosen_cuts (line_delimiter format) request object)
 
 abbrev pub processed_by : LineFormat → ℕ → List ℕ → SelectRequest → Result Planned Code → Result (List Yielded) Code
 processed_by format longest object request (Ok p) = Ok (processed (limit_of p.plan) (yields_over format p longest object request))

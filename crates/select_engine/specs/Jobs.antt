@@ -9,6 +9,7 @@ use Rattle.select_reply.specs.declared.code.Code.{Code}
 use Rattle.select_reply.specs.Yields.{Yielded}
 use Rattle.record_stream.specs.Replied.{WroteEarly}
 use Rattle.object_plan.specs.Columns.{header_once}
+use Rattle.select_engine.specs.Chosen.{chosen_range}
 use Rattle.select_engine.specs.declared.outcome.EngineError.{EngineError}
 use Rattle.select_engine.specs.declared.outcome.EngineError.TheVariants.{StoreFault, WriteFault, OutOfMemory}
 
@@ -35,4 +36,4 @@ most_of_range longest range = range_len range + (2 * longest + 4 * piece)
 -- the most bytes that a request takes of an object of so many bytes: those of its range, and no byte twice but for a used header
 abbrev pub most_taken : ℕ → SelectRequest → ℕ → ℕ
 most_taken longest request size =
-    min (header_once request.input size + size) (most_of_range longest (resolved request.range size))
+    min (header_once request.input size + size) (most_of_range longest (resolved (chosen_range request) size))

@@ -1,4 +1,5 @@
 pub mod Answered
+pub mod Chosen
 pub mod Due
 pub mod Early
 pub mod Jobs

@@ -1,6 +1,7 @@
 //! Runs a query over the store's open object: the plan of the query, and the reply over the records that start in the request's range.
 #![tactic(auto)]
 
+mod chosen;
 mod laws;
 mod limit;
 mod outcome;

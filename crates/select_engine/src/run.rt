@@ -3,15 +3,18 @@ ghost use Rattle.std.specs.Prelude.{◌≡◌, ◌+◌, ◌-◌, ◌≤◌, ℕ,
 ghost use Rattle.select_ports.specs.Stored.{IsOpen};
 ghost use Rattle.line_window.specs.Sliding.{Tells};
 ghost use Rattle.scan_ranges.specs.Resolved.{resolved};
+ghost use Rattle.select_request.specs.Printable.{is_input};
 ghost use Rattle.select_reply.specs.Answers.{processed};
 ghost use Rattle.select_reply.specs.Events.{error_event};
 ghost use Rattle.record_rows.specs.Formats.{is_readable, line_delimiter};
 ghost use Rattle.record_stream.specs.Replied.{Answers, WritesReply, WroteEarly};
 ghost use Rattle.record_stream.specs.Selected.{first_of, most_read};
 ghost use Rattle.select_engine.specs.Answered.{answered, ended, events_of, yields_over};
+ghost use Rattle.select_engine.specs.Chosen.{quoted_dialect, beside_by, chosen_range};
 ghost use Rattle.select_engine.specs.Due.{limit_of, records_over, processed_over};
 ghost use Rattle.select_engine.specs.Jobs.{HasEngineCause, IsEarly, most_taken};
 
+use crate::chosen::{answer_chosen, quoted_dialect};
 use crate::laws::unread_output_is_not_due;
 use crate::limit::limit_of;
 use crate::outcome::EngineError;
@@ -23,7 +26,7 @@ use planned_lines::{
 };
 use record_output::Out;
 use record_rows::LineFormat;
-use record_stream::{StreamError, answer_range};
+use record_stream::StreamError;
 use select_job::Job;
 use select_ports::{Failed, FrameSink, Limits, Store};
 use select_reply::{Code, Outcome, ReplyWriter, totals_are_one_more_record};
@@ -41,16 +44,16 @@ pub fn run_job<S: Store, K: FrameSink>(
 ) -> Result<Outcome, EngineError>
     requires object { IsOpen (S.current store.old) size }
     requires limit { limits.longest ≤ 16777216 }
-    // The reply is what the query means over the object: its records that start in the request's range, or one Error event.
+    // The reply is what the query means over the object: its records that the request asks for, or one Error event.
     ensures reply { (object : List ℕ) → Tells (S.current store.old) object
         → WritesReply K.wrap
         (events_of job.now.request.progress (answered limits.longest object job.now.request job.now.query))
         (ended (answered limits.longest object job.now.request job.now.query))
         (K.written out.old) (K.written out.new) result }
-    // Output isn't held back while the object is read on, from the range's first byte.
+    // Output isn't held back while the object is read on, from the first byte of the range that is asked for.
     ensures early { (object : List ℕ) → Tells (S.current store.old) object → result ≡ Err EngineError.StoreFault
         → IsEarly K.wrap job.now.request.progress limits.longest
-        (first_of (resolved job.now.request.range (length object)) + (S.taken store.new - S.taken store.old))
+        (first_of (resolved (chosen_range job.now.request) (length object)) + (S.taken store.new - S.taken store.old))
         (processed_over limits.longest object job.now.request job.now.query) (K.written out.old) (K.written out.new) }
     ensures cause { IfErr result (HasEngineCause (S.faults store.old) (S.faults store.new)
         (K.faults out.old) (K.faults out.new) (K.written out.old) (K.written out.new)) }
@@ -76,7 +79,7 @@ pub fn run_job<S: Store, K: FrameSink>(
     unread_output_is_not_due();
     planned_lines_end_with_totals();
     totals_are_one_more_record();
-    match plan_over(alloc, job, &mut window, &mut spans, store, size) {
+    match plan_over(alloc, limits, job, &mut window, &mut spans, store, size) {
         Ok(planned) => answer_planned(
             alloc,
             limits,
@@ -95,7 +98,7 @@ pub fn run_job<S: Store, K: FrameSink>(
     }
 }
 
-// Answers the records that start in the request's range.
+// Answers the records that the request asks for.
 fn answer_planned<S: Store, K: FrameSink>(
     alloc: Global,
     limits: Limits,
@@ -112,20 +115,22 @@ fn answer_planned<S: Store, K: FrameSink>(
     requires limit { limits.longest ≤ 16777216 }
     requires longest { window.old.longest ≡ limits.longest }
     requires delimiter { window.old.delimiter ≡ line_delimiter format }
+    requires valid { is_input request.now.input ≡ true }
     requires readable { is_readable format ≡ true }
     ensures reply { (object : List ℕ) → Tells (S.current store.old) object
         → Answers K.wrap request.now.progress
         (processed (limit_of planned.now.plan) (records_over format planned.now limits.longest object request.now))
         (K.written out.old) (K.written out.new) result }
     ensures early { (object : List ℕ) (upto : ℕ) → Tells (S.current store.old) object
-        → upto ≤ first_of (resolved request.now.range (length object)) + (limits.longest + 65538 + (S.taken store.new - S.taken store.old))
+        → upto ≤ first_of (resolved (chosen_range request.now) (length object))
+        + (limits.longest + (beside_by (quoted_dialect request.now.input) + (S.taken store.new - S.taken store.old)))
         → result ≡ Err EngineError.StoreFault
         → WroteEarly K.wrap request.now.progress limits.longest upto
         (processed (limit_of planned.now.plan) (yields_over format planned.now limits.longest object request.now))
         (K.written out.old) (K.written out.new) }
     ensures cause { IfErr result (HasEngineCause (S.faults store.old) (S.faults store.new)
         (K.faults out.old) (K.faults out.new) (K.written out.old) (K.written out.new)) }
-    ensures taken { S.taken store.new ≤ S.taken store.old + most_read limits.longest (resolved request.now.range size) }
+    ensures taken { S.taken store.new ≤ S.taken store.old + most_read limits.longest (resolved (chosen_range request.now) size) }
     ensures once { S.taken store.new ≤ S.taken store.old + size }
     ensures held { S.held store.new ≡ S.held store.old }
     ensures current { S.current store.new ≡ S.current store.old }
@@ -144,12 +149,14 @@ fn answer_planned<S: Store, K: FrameSink>(
     let Ok(mut lines) = PlannedLines::of(alloc, format, planned, spans, writer) else {
         return Err(EngineError::OutOfMemory);
     };
-    match answer_range(
+    match answer_chosen(
         window,
         &mut reply,
         store,
         size,
+        quoted_dialect(&request.input),
         request.range,
+        limits,
         out,
         &mut lines,
     ) {

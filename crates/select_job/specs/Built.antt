@@ -7,9 +7,9 @@ use Rattle.select_request.specs.declared.request.Input.TheVariants as input
 use Rattle.sql_grammar.specs.declared.tree.Query.{Query}
 use Rattle.sql_lawful.specs.Lawful.{IsLawful}
 
--- the object's lines are read: CSV whose quoted fields hold no record delimiters, and JSON Lines
+-- the object's records are read: CSV, and JSON Lines
 abbrev pub is_built_input : Input → Bool
-is_built_input (input.Csv csv) = not csv.quoted_delimiters
+is_built_input (input.Csv csv) = true
 is_built_input input.JsonLines = true
 is_built_input input.JsonDocument = false
 is_built_input input.Parquet = false

@@ -98,12 +98,12 @@ fn is_built(request: &SelectRequest) -> bool
     is_built_input(request.input)
 }
 
-// Whether the lines of the object are read: CSV whose quoted fields hold no record delimiters, and JSON Lines.
+// Whether the records of the object are read: CSV, and JSON Lines.
 fn is_built_input(input: Input) -> bool
     ensures { result ≡ is_built_input input }
 {
     match input {
-        Input::Csv(csv) => !csv.quoted_delimiters,
+        Input::Csv(_) => true,
         Input::JsonLines => true,
         Input::JsonDocument => false,
         Input::Parquet => false,

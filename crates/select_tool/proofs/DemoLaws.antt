@@ -5,6 +5,7 @@ use Rattle.std.proofs.lemmas.List.{length-append}
 use Rattle.sample_objects.specs.Objects.{sample, head_of, lines_below}
 use Rattle.sample_objects.specs.declared.kind.SampleKind.TheVariants.{Csv}
 use Rattle.record_stream.specs.Tiling.{Ascend}
+use Rattle.select_request.specs.Values.{allows_range}
 use Rattle.select_request.specs.declared.request.ScanRange.{ScanRange}
 use Rattle.select_reply.specs.declared.outcome.Outcome.{Outcome}
 use Rattle.select_reply.specs.declared.outcome.Outcome.TheVariants.{Done, Faulted}
@@ -58,17 +59,20 @@ pub joins_all : EachTilingMakesWhole → (object : List ℕ) → 7 ≤ length ob
 joins_all law object long (Refused code at) = tt
 joins_all law object long (Asks job) = λ joined.
     let ended = reply_outcome longest_record object (Asks job) in
+    let ranges = allows_range job.request.input in
     let none = is_none job.request.range in
     let all = is_none job.query.limit in
     let rows = not (has_totals job.query.items) in
-    let three = left_of (none && all && rows) (is_done ended) joined in
-    let done = right_of (none && all && rows) (is_done ended) joined in
-    let two = left_of (none && all) rows three in
-    let unranged = none_is job.request.range (left_of none all two) in
-    let unlimited = none_is job.query.limit (right_of none all two) in
-    let plain = not_is (has_totals job.query.items) (right_of (none && all) rows three) in
+    let four = left_of (ranges && none && all && rows) (is_done ended) joined in
+    let done = right_of (ranges && none && all && rows) (is_done ended) joined in
+    let three = left_of (ranges && none && all) rows four in
+    let two = left_of (ranges && none) all three in
+    let allowed = left_of ranges none two in
+    let unranged = none_is job.request.range (right_of ranges none two) in
+    let unlimited = none_is job.query.limit (right_of (ranges && none) all three) in
+    let plain = not_is (has_totals job.query.items) (right_of (ranges && none && all) rows four) in
     let same = whole_same job unranged in
-    let whole = law longest_record object job (sevenths (length object)) (ascend_sevenths (length object) long) in
+    let whole = law longest_record object job (sevenths (length object)) allowed (ascend_sevenths (length object) long) in
     by_outcome object job (sevenths (length object)) (reply_outcome longest_record object (whole_of job))
     (ap (λ (j : Job). is_done (reply_outcome longest_record object (Asks j))) same ∙ done) (whole.joined plain unlimited)
     ∙ ap (λ (j : Job). payload_of longest_record object (Asks j)) same

@@ -3,6 +3,7 @@ use Rattle.std.proofs.Common.{◌≡◌, ℕ, ◌+◌, List, length, Option, ari
 use Rattle.std.specs.Io.KnownBytes.{Keeps}
 use Rattle.select_job.specs.declared.asked.Asked.{Asked}
 use Rattle.select_job.specs.declared.asked.Asked.TheVariants.{Refused, Asks}
+use Rattle.select_engine.specs.Chosen.{chosen_range}
 use Rattle.select_engine.specs.Early.{UnreadIsNotDue}
 use Rattle.scan_ranges.specs.Resolved.{resolved}
 use Rattle.record_stream.specs.Selected.{first_of}
@@ -12,5 +13,5 @@ pub wrote_none : UnreadIsNotDue → (wrap : List ℕ → List ℕ) (longest : �
     → IsNotHeldBack wrap longest object taken asked before now
 wrote_none undue wrap longest object taken (Refused code at) before now none kept = tt
 wrote_none undue wrap longest object taken (Asks job) before now none kept =
-    undue wrap job.request.progress longest object job.request job.query (first_of (resolved job.request.range (length object)) + taken) before now
+    undue wrap job.request.progress longest object job.request job.query (first_of (resolved (chosen_range job.request) (length object)) + taken) before now
     (omega (arith, none)) kept

@@ -96,7 +96,7 @@ prepared left asked body read is = subst (λ (o : Option (List ℕ)). IfSome o (
 
 pub tiles_make : EachTilingMakesWhole → (longest : ℕ) (object cuts : List ℕ) (asked : Asked) → Ascend 0 cuts → TilesMakeWhole longest object cuts asked
 tiles_make law longest object cuts (Refused code at) up = tt
-tiles_make law longest object cuts (Asks job) up = λ allowed. law longest object job cuts up
+tiles_make law longest object cuts (Asks job) up = λ allowed. law longest object job cuts allowed up
 
 module _ (longest : ℕ) (held : Option Objects) (left : Option (List ℕ)) (name : List ℕ) (size : ℕ) (opened : Opened) (cuts : List ℕ) (asked : Asked) (before now : Option (List ℕ))
     (opens : OpensName held name size opened) (read : IfSome left (λ body. Prepares body asked)) where

@@ -1,12 +1,15 @@
 -- The tiles of an object have each record of the whole once, and the replies to them make the reply to the whole.
 use Rattle.std.proofs.Common.{◌≡◌, ℕ, ◌+◌, ◌-◌, Bool, true, false, ◌||◌, List, [], ◌∷◌, ◌++◌, length, map, Option, None, Some, Result, Ok, Err, inl, inr, refl, sym, ap, ◌∙◌, subst, append-nil}
-use Rattle.std.specs.Prelude.{sum_by, filter, if◌then◌else◌}
+use Rattle.std.specs.Prelude.{sum_by, filter, not, if◌then◌else◌}
 use Rattle.std.specs.List.{flat_map}
 use Rattle.std.proofs.lemmas.List.{map-append}
 use Rattle.std.proofs.lemmas.List.Folds.{list_any-append}
 use Rattle.std.proofs.lemmas.List.Sums.{sum_by-cons}
 use Rattle.event_frame.specs.declared.counts.Counts.{Counts}
 use Rattle.scan_ranges.specs.Resolved.{cut_to, resolved}
+use Rattle.select_request.specs.Values.{allows_range}
+use Rattle.select_request.specs.declared.request.Input.{Input}
+use Rattle.select_request.specs.declared.request.Input.TheVariants as input
 use Rattle.select_request.specs.declared.request.ScanRange.{ScanRange}
 use Rattle.select_request.specs.declared.request.ScanRange.TheVariants.{Between, From}
 use Rattle.select_reply.specs.declared.code.Code.{Code}
@@ -20,6 +23,8 @@ use Rattle.select_job.specs.declared.asked.Asked.{Asked}
 use Rattle.select_job.specs.declared.asked.Asked.TheVariants.{Asks}
 use Rattle.select_reply.specs.Replies.{ending_of}
 use Rattle.select_reply.specs.Tilings.{joined, payload_of as carried_by, payloads_of as carried_by_all, EachTilesJoin, EachTilesFail}
+use Rattle.csv_cutter.specs.declared.dialect.Dialect.{Dialect}
+use Rattle.csv_cutter.specs.Dialects.{dialect_of}
 use Rattle.record_rows.specs.Formats.{format_of, line_delimiter}
 use Rattle.record_rows.specs.declared.format.LineFormat.{LineFormat}
 use Rattle.scan_plan.specs.declared.columns.Columns.{Columns}
@@ -36,7 +41,7 @@ use Rattle.select_request.specs.declared.request.Output.{Output}
 use Rattle.scan_plan.specs.declared.plans.PlanItems.{PlanItems}
 use Rattle.scan_plan.specs.declared.plans.PlanItems.TheVariants as items
 use Rattle.sql_totals.specs.Partials.{Partial}
-use Rattle.record_stream.specs.Lines.{Lines, IsWithoutTotals}
+use Rattle.record_stream.specs.Lines.{Lines, IsWithoutTotals, yields_of}
 use Rattle.record_stream.specs.Selected.{lies_in, selected_cuts, yields}
 use Rattle.record_stream.specs.Tiling.{Ascend, ranges_from, all_yields, EachLineIsInOneTile, EachRangeSelects, EachTilingJoins}
 use Rattle.select_job.specs.Jobs.{Job}
@@ -45,7 +50,8 @@ use Rattle.object_plan.specs.Columns.{columns_of}
 use Rattle.planned_lines.specs.LineYields.{lines_of, has_aggregates, totals_record, PlannedLinesAreAlone}
 use Rattle.select_job.specs.Jobs.{request_with, with_range}
 use Rattle.object_plan.specs.Planning.{bound_to, bound_in, planned_over}
-use Rattle.select_engine.specs.Answered.{answered_in, answered_by, answered_with, answered, ended, events_of}
+use Rattle.select_engine.specs.Chosen.{quoted_dialect, cuts_by, chosen_cuts}
+use Rattle.select_engine.specs.Answered.{answered_in, answered_by, answered_with, answered, ended, events_of, yields_over}
 use Rattle.select_tool.specs.Replies.{reply_outcome}
 use Rattle.select_tool.specs.Tiles.{tile_ranges, tile_of, has_error, any_error}
 use Rattle.select_tool.specs.Whole.{places_of, yields_by, yields_in, lines_by, lines_in, has_totals, payload_of, payloads_of, counts_of, summed, whole_of, JoinsTo, MakesWhole, EachTilingMakesWhole}
@@ -108,20 +114,43 @@ no_totals_record items.All names output_ longest ts plain = refl
 no_totals_record (items.Rows bounds) names output_ longest ts plain = refl
 no_totals_record (items.Totals aggs) names output_ longest ts plain = absurd cc
 
+-- ---- an object that allows ranges
+
+unquoted_csv : (quoted : Bool) (dialect : Dialect) → not quoted ≡ true → (if quoted then Some dialect else None) ≡ None
+unquoted_csv false dialect allowed = refl
+unquoted_csv true dialect allowed = absurd cc
+
+-- its quoted fields hold no record delimiters
+unquoted : (input : Input) → allows_range input ≡ true → quoted_dialect input ≡ None
+unquoted (input.Csv csv) allowed = unquoted_csv csv.quoted_delimiters (dialect_of csv) allowed
+unquoted input.JsonLines allowed = refl
+unquoted input.JsonDocument allowed = refl
+unquoted input.Parquet allowed = refl
+
+-- the records that are asked for are those that start in the range
+range_cuts : (delimiter object : List ℕ) (job : Job) → allows_range job.request.input ≡ true → (range : Option ScanRange)
+    → chosen_cuts delimiter (request_with job.request range) object ≡ selected_cuts delimiter object (resolved range (length object))
+range_cuts delimiter object job allowed range = ap (λ q. cuts_by q delimiter range object) (unquoted job.request.input allowed)
+
 -- ---- a query that is bound, without a limit
 
 module _ (longest : ℕ) (object : List ℕ) (job : Job) (format : LineFormat) (p : Planned) (has_format : format_of job.request.input ≡ Some format)
-    (is_planned : planned_over longest object job.request.input job.query ≡ Ok p) where
+    (is_planned : planned_over longest object job.request.input job.query ≡ Ok p) (allowed : allows_range job.request.input ≡ true) where
   bound_lines : Lines
   bound_lines = lines_of format p.columns p.plan job.request.output longest
 
   abbrev in_places : Option (ℕ × ℕ) → List Yielded
   in_places places = yields (lines_of format p.columns p.plan job.request.output longest) longest (line_delimiter format) object places
 
-  yields_are : (range : Option ScanRange) → yields_in longest object job range ≡ in_places (resolved range (length object))
-  yields_are range =
+  yields_planned : (range : Option ScanRange) → yields_in longest object job range ≡ yields_over format p longest object (request_with job.request range)
+  yields_planned range =
       ap (λ f. yields_by longest f (planned_over longest object job.request.input job.query) object (request_with job.request range)) has_format
       ∙ ap (λ q. yields_by longest (Some format) q object (request_with job.request range)) is_planned
+
+  yields_are : (range : Option ScanRange) → yields_in longest object job range ≡ in_places (resolved range (length object))
+  yields_are range =
+      yields_planned range
+      ∙ ap (yields_of (lines_of format p.columns p.plan job.request.output longest) longest) (range_cuts (line_delimiter format) object job allowed range)
 
   module _ (selects : EachRangeSelects) (alone : IsWithoutTotals (lines_of format p.columns p.plan job.request.output longest)) where
     tile_starts : (range : ScanRange) → StartsIn (lies_in (places_of object range)) (yields_in longest object job (Some range))
@@ -159,7 +188,7 @@ module _ (longest : ℕ) (object : List ℕ) (job : Job) (format : LineFormat) (
 -- ---- and has no limit
 
 module _ (longest : ℕ) (object : List ℕ) (job : Job) (format : LineFormat) (p : Planned) (has_format : format_of job.request.input ≡ Some format)
-    (is_planned : planned_over longest object job.request.input job.query ≡ Ok p) (selects : EachRangeSelects)
+    (is_planned : planned_over longest object job.request.input job.query ≡ Ok p) (allowed : allows_range job.request.input ≡ true) (selects : EachRangeSelects)
     (alone : IsWithoutTotals (lines_of format p.columns p.plan job.request.output longest)) (plain : has_aggregates p.plan.items ≡ false)
     (unlimited : p.plan.limit ≡ None) where
   abbrev tile : ScanRange → List Yielded
@@ -170,13 +199,12 @@ module _ (longest : ℕ) (object : List ℕ) (job : Job) (format : LineFormat) (
 
   answered_is : (range : Option ScanRange) → answered longest object (request_with job.request range) job.query ≡ Ok (processed None (yields_in longest object job range))
   answered_is range =
-      let places = resolved range (length object) in
-      let records = in_places longest object job format p has_format is_planned places in
+      let records = yields_over format p longest object (request_with job.request range) in
       ap (λ f. answered_in f longest object (request_with job.request range) job.query) has_format
       ∙ ap (answered_by format longest object (request_with job.request range)) is_planned
       ∙ ap (λ t. Ok (answered_with p.plan.limit records t)) (no_totals_record p.plan.items p.plan.names job.request.output longest _ plain)
       ∙ ap (λ l. Ok (processed l records)) unlimited
-      ∙ ap (λ ys. Ok (processed None ys)) (sym (yields_are longest object job format p has_format is_planned range))
+      ∙ ap (λ ys. Ok (processed None ys)) (sym (yields_planned longest object job format p has_format is_planned allowed range))
 
   payload_is : (range : Option ScanRange) → payload_of longest object (Asks (with_range job range)) ≡ carried_by job.request.progress (yields_in longest object job range)
   payload_is range = ap (λ a. payloads (events_of job.request.progress a)) (answered_is range)
@@ -291,7 +319,7 @@ module _ (longest : ℕ) (object : List ℕ) (job : Job) (format : LineFormat) (
           let f = first_tile (tile_ranges 0 cuts) (ap has_fault whole ∙ some) in
           let parts : all (tile_ranges 0 cuts) ≡ all f.front ++ tile f.range ∷ all f.back = ap all f.split ∙ all-split f.front f.range f.back in
           let shared = fails_too job.request.progress (all f.front) (tile f.range) (all f.back) f.fine f.fails_ in
-          let first = has_first (lies_in (places_of object f.range)) (tile f.range) (tile_starts longest object job format p has_format is_planned selects alone f.range) f.fails_ in
+          let first = has_first (lies_in (places_of object f.range)) (tile f.range) (tile_starts longest object job format p has_format is_planned allowed selects alone f.range) f.fails_ in
           let in_whole : joined (all f.front ++ tile f.range ∷ all f.back) ≡ yields_in longest object job None = ap joined (sym parts) ∙ whole in
           let is : fault done ≡ Some (first.code, first.at) = ap (λ (ys : List Yielded). fault (processed None ys)) (sym in_whole) ∙ shared.fault ∙ first.is in
           subst (λ (g : Option (Code × ℕ)). JoinsTo longest object job cuts (ending_of done g)) (sym is) (inl (record {
@@ -370,10 +398,11 @@ module _ (q : Query) (p : Planned) where
 
 -- ---- the lines
 
-module _ (object : List ℕ) (job : Job) where
+module _ (object : List ℕ) (job : Job) (allowed : allows_range job.request.input ≡ true) where
   lines_are : (format : LineFormat) → format_of job.request.input ≡ Some format → (range : Option ScanRange)
       → lines_in object job range ≡ selected_cuts (line_delimiter format) object (resolved range (length object))
-  lines_are format has_format range = ap (λ f. lines_by f object (request_with job.request range)) has_format
+  lines_are format has_format range =
+      ap (λ f. lines_by f object (request_with job.request range)) has_format ∙ range_cuts (line_delimiter format) object job allowed range
 
   tile_lines_are : (format : LineFormat) → format_of job.request.input ≡ Some format → (first : ℕ) (cuts : List ℕ)
       → flat_map (λ range. lines_in object job (Some range)) (tile_ranges first cuts)
@@ -398,21 +427,21 @@ module _ (object : List ℕ) (job : Job) where
 -- ---- every query
 
 module _ (once : EachLineIsInOneTile) (selects : EachRangeSelects) (joins : EachTilingJoins) (lone : PlannedLinesAreAlone) (join : EachTilesJoin) (fails_too : EachTilesFail)
-    (longest : ℕ) (object : List ℕ) (job : Job) (cuts : List ℕ) (up : Ascend 0 cuts) where
+    (longest : ℕ) (object : List ℕ) (job : Job) (cuts : List ℕ) (allowed : allows_range job.request.input ≡ true) (up : Ascend 0 cuts) where
   in_tiles : flat_map (λ range. lines_in object job (Some range)) (tile_ranges 0 cuts) ≡ lines_in object job None
-  in_tiles = each_line object job once cuts up (format_of job.request.input) refl
+  in_tiles = each_line object job allowed once cuts up (format_of job.request.input) refl
 
   by_plan : (format : LineFormat) → format_of job.request.input ≡ Some format → (q : Result Planned Code)
       → planned_over longest object job.request.input job.query ≡ q → MakesWhole longest object job cuts
   by_plan format has_format (Ok p) is =
       let of = in_columns job.query p (columns_of job.request.input longest object) is in
       let alone = λ (rows : has_totals job.query.items ≡ false). lone format p.columns p.plan job.request.output longest (of.totals ∙ rows) in
-      let whole = λ (rows : has_totals job.query.items ≡ false). whole_is longest object job format p has_format is joins (alone rows) cuts up in
+      let whole = λ (rows : has_totals job.query.items ≡ false). whole_is longest object job format p has_format is allowed joins (alone rows) cuts up in
       record {
         lines = in_tiles;
-        records = λ rows. records_are longest object job format p has_format is (tile_ranges 0 cuts) ∙ whole rows;
+        records = λ rows. records_are longest object job format p has_format is allowed (tile_ranges 0 cuts) ∙ whole rows;
         joined = λ rows unlimited.
-            joins_whole longest object job format p has_format is selects (alone rows) (of.totals ∙ rows) (of.limit ∙ unlimited) join fails_too cuts (whole rows);
+            joins_whole longest object job format p has_format is allowed selects (alone rows) (of.totals ∙ rows) (of.limit ∙ unlimited) join fails_too cuts (whole rows);
       }
   by_plan format has_format (Err code) is =
       fails_alike longest object job cuts code in_tiles
@@ -429,5 +458,5 @@ module _ (once : EachLineIsInOneTile) (selects : EachRangeSelects) (joins : Each
       (λ range. ap (λ f. answered_in f longest object (request_with job.request range) job.query) none)
 
 pub each_tiling_makes_whole : EachLineIsInOneTile → EachRangeSelects → EachTilingJoins → PlannedLinesAreAlone → EachTilesJoin → EachTilesFail → EachTilingMakesWhole
-each_tiling_makes_whole once selects joins lone join fails_too longest object job cuts up =
-    by_format once selects joins lone join fails_too longest object job cuts up (format_of job.request.input) refl
+each_tiling_makes_whole once selects joins lone join fails_too longest object job cuts allowed up =
+    by_format once selects joins lone join fails_too longest object job cuts allowed up (format_of job.request.input) refl

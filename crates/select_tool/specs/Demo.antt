@@ -2,6 +2,7 @@
 use Rattle.std.specs.Prelude.{◌≡◌, ℕ, suc, ◌*◌, ◌/◌, ◌&&◌, Bool, true, false, List, [], ◌∷◌, ◌++◌, length, map, codes, decimal, not, is_none, Option, if◌then◌else◌}
 use Rattle.std.specs.Io.KnownBytes.{Appends}
 use Rattle.select_ports.specs.Streams.{AppendsFront}
+use Rattle.select_request.specs.Values.{allows_range}
 use Rattle.select_request.specs.declared.request.ScanRange.{ScanRange}
 use Rattle.select_reply.specs.Codes.{code_text}
 use Rattle.select_reply.specs.declared.outcome.Outcome.{Outcome}
@@ -52,7 +53,8 @@ is_done (Done c) = true
 is_done (Faulted code at) = false
 
 abbrev pub is_joined : Job → Outcome → Bool
-is_joined job ended = is_none job.request.range && is_none job.query.limit && not (has_totals job.query.items) && is_done ended
+is_joined job ended =
+    allows_range job.request.input && is_none job.request.range && is_none job.query.limit && not (has_totals job.query.items) && is_done ended
 
 unfoldable pub last_line : Bool → List ℕ
 last_line joined = if joined then line (codes "joined yes") else []

@@ -14,6 +14,7 @@ use Rattle.select_tool.specs.Words.{Order, longest_record, selects, tiles, lists
 use Rattle.select_job.specs.Prepared.{Prepares}
 use Rattle.select_reply.specs.Events.{wrapped_frames}
 use Rattle.scan_ranges.specs.Resolved.{resolved}
+use Rattle.select_engine.specs.Chosen.{chosen_range}
 use Rattle.select_engine.specs.Due.{processed_over}
 use Rattle.select_engine.specs.Answered.{answered, ended, events}
 use Rattle.record_stream.specs.Selected.{first_of}
@@ -42,12 +43,12 @@ pub record RepliedInPart (longest : ℕ) (object body : List ℕ) (before now : 
   pub prepared : Prepares body asked
   pub written : AppendsFront before now (reply_frames (λ frame. frame) longest object asked)
 
--- output isn't held back: where so many bytes of the object were read, from the first one of the range on, the whole pieces that the
+-- output isn't held back: where so many bytes of the object were read, from the first one of the range that is asked for on, the whole pieces that the
 -- early records' output reaches have been written
 abbrev pub IsNotHeldBack : (List ℕ → List ℕ) → ℕ → List ℕ → ℕ → Asked → Option (List ℕ) → Option (List ℕ) → Type 0
 IsNotHeldBack wrap longest object taken (Refused code at) before now = Unit {0}
 IsNotHeldBack wrap longest object taken (Asks job) before now =
-    IsEarly wrap job.request.progress longest (first_of (resolved job.request.range (length object)) + taken)
+    IsEarly wrap job.request.progress longest (first_of (resolved (chosen_range job.request) (length object)) + taken)
     (processed_over longest object job.request job.query) before now
 
 -- that of what the body asks

@@ -18,9 +18,10 @@ use Rattle.select_reply.specs.Yields.{Yielded}
 use Rattle.select_job.specs.declared.asked.Asked.{Asked}
 use Rattle.select_job.specs.declared.asked.Asked.TheVariants.{Refused, Asks}
 use Rattle.object_plan.specs.Planning.{planned_over}
+use Rattle.select_engine.specs.Chosen.{chosen_cuts}
 use Rattle.select_engine.specs.Answered.{yields_over, events}
 use Rattle.select_job.specs.Prepared.{Prepares}
-use Rattle.record_stream.specs.Selected.{lies_in, selected_cuts}
+use Rattle.record_stream.specs.Selected.{lies_in}
 use Rattle.select_job.specs.Jobs.{request_with, with_range}
 use Rattle.select_job.specs.Jobs.{Job}
 use Rattle.planned_lines.specs.declared.planned.Planned.{Planned}
@@ -48,10 +49,10 @@ abbrev pub yields_in : ℕ → List ℕ → Job → Option ScanRange → List Yi
 yields_in longest object job range =
     yields_by longest (format_of job.request.input) (planned_over longest object job.request.input job.query) object (request_with job.request range)
 
--- the lines of the object that start in the range
+-- the lines of the object that are asked for, those that start in the range
 abbrev pub lines_by : Option LineFormat → List ℕ → SelectRequest → List Cut
 lines_by None object request = []
-lines_by (Some format) object request = selected_cuts (line_delimiter format) object (resolved request.range (length object))
+lines_by (Some format) object request = chosen_cuts (line_delimiter format) request object
 
 abbrev pub lines_in : List ℕ → Job → Option ScanRange → List Cut
 lines_in object job range = lines_by (format_of job.request.input) object (request_with job.request range)
@@ -116,9 +117,11 @@ pub record MakesWhole (longest : ℕ) (object : List ℕ) (job : Job) (cuts : Li
       → flat_map (λ range. yields_in longest object job (Some range)) (tile_ranges 0 cuts) ≡ yields_in longest object job None
   pub joined : has_totals job.query.items ≡ false → job.query.limit ≡ None → JoinsTo longest object job cuts (reply_outcome longest object (whole_of job))
 
--- and they do, for every tiling of every object
+-- and they do, for every tiling of every object that allows ranges
 abbrev pub EachTilingMakesWhole : Type 0
-EachTilingMakesWhole = (longest : ℕ) (object : List ℕ) (job : Job) (cuts : List ℕ) → Ascend 0 cuts → MakesWhole longest object job cuts
+EachTilingMakesWhole =
+    (longest : ℕ) (object : List ℕ) (job : Job) (cuts : List ℕ) → allows_range job.request.input ≡ true → Ascend 0 cuts
+    → MakesWhole longest object job cuts
 
 -- where the tiles of what a body asks are answered
 abbrev pub TilesMakeWhole : ℕ → List ℕ → List ℕ → Asked → Type 0

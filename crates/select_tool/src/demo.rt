@@ -271,7 +271,8 @@ fn tally(ended: &Outcome) -> ArrayString<128>
 fn is_joined(job: &Job, ended: &Outcome) -> bool
     ensures { result ≡ is_joined job.now ended.now }
 {
-    job.request().range.is_none()
+    job.allows_ranges()
+        && job.request().range.is_none()
         && job.query().limit.is_none()
         && !has_totals(&job.query().items)
         && is_done(ended)

@@ -13,6 +13,7 @@ use Rattle.object_plan.specs.Planning.{planned_over}
 use Rattle.select_engine.specs.Answered.{ended, events_of, yields_over}
 use Rattle.select_engine.specs.Due.{limit_of, records_over}
 use Rattle.select_engine.proofs.Answering.{answered_by_plan}
+use Rattle.select_engine.specs.Chosen.{quoted_dialect, beside_by, chosen_range}
 use Rattle.select_engine.specs.Jobs.{IsEarly}
 use Rattle.select_engine.proofs.Undue.{header_taken, taken_in_all, processed_is}
 use Rattle.select_engine.proofs.run.run_job.Goals as goal
@@ -41,12 +42,13 @@ pub returns-in-Ok-plan_over-clause-early : goal.returns-in-Ok-plan_over-clause-e
 returns-in-Ok-plan_over-clause-early g c = λ object tells failed.
     let job = c.args.job.now in
     let longest = c.args.limits.longest in
-    let first = first_of (resolved job.request.range (length object)) in
+    let first = first_of (resolved (chosen_range job.request) (length object)) in
+    let beside = beside_by (quoted_dialect job.request.input) in
     let before = g.S.Store.taken c.args.store.now in
     let mid = g.S.Store.taken c.plan_over.new.store in
     let upto = first + (g.S.Store.taken c.answer_planned.new.store - before) in
     let header = header_taken job.request.input _ longest before mid c.in-Ok.ensures.longest c.in-Ok-plan_over.ensures.taken in
-    let near : upto ≤ first + (longest + 65538 + (g.S.Store.taken c.answer_planned.new.store - mid)) = omega (arith, header) in
+    let near : upto ≤ first + (longest + (beside + (g.S.Store.taken c.answer_planned.new.store - mid))) = omega (arith, header) in
     let still : Tells (g.S.Store.current c.plan_over.new.store) object = c.in-Ok-plan_over.ensures.current ∙ tells in
     let format : format_of job.request.input ≡ Some c.in-Some.format =
     ap (λ (i : Input). format_of i) (ap (λ r. r.input) (sym c.request.ensures)) ∙ sym c.of.ensures.value ∙ c.in-Some.is in
@@ -57,7 +59,8 @@ returns-in-Ok-plan_over-clause-early g c = λ object tells failed.
     subst (λ a. IsEarly g.K.FrameSink.wrap job.request.progress longest upto a old new) (sym is)
     (subst (λ (p : Planned). WroteEarly g.K.FrameSink.wrap job.request.progress longest upto
     (processed (limit_of p.plan) (yields_over c.in-Some.format p longest object job.request)) old new) c.get.ensures
-    (subst (λ (r : SelectRequest). upto ≤ first_of (resolved r.range (length object)) + (longest + 65538 + (g.S.Store.taken c.answer_planned.new.store - mid))
+    (subst (λ (r : SelectRequest). upto ≤ first_of (resolved (chosen_range r) (length object))
+    + (longest + (beside_by (quoted_dialect r.input) + (g.S.Store.taken c.answer_planned.new.store - mid)))
     → WroteEarly g.K.FrameSink.wrap r.progress longest upto
     (processed (limit_of c.get.result.now.plan) (yields_over c.in-Some.format c.get.result.now longest object r)) old new)
     c.request-in-Ok-plan_over.ensures (λ close. c.answer_planned.ensures.early object upto still close failed) near))
@@ -69,8 +72,8 @@ returns-in-Ok-plan_over-clause-taken g c =
     let before = g.S.Store.taken c.args.store.now in
     let mid = g.S.Store.taken c.plan_over.new.store in
     let header = header_taken job.request.input _ longest before mid c.in-Ok.ensures.longest c.in-Ok-plan_over.ensures.taken in
-    taken_in_all longest before mid _ _ c.args.size (resolved job.request.range c.args.size) header c.in-Ok-plan_over.ensures.once
-    (subst (λ (r : SelectRequest). g.S.Store.taken c.answer_planned.new.store ≤ mid + most_read longest (resolved r.range c.args.size))
+    taken_in_all (quoted_dialect job.request.input) longest before mid _ _ c.args.size (resolved (chosen_range job.request) c.args.size) header c.in-Ok-plan_over.ensures.once
+    (subst (λ (r : SelectRequest). g.S.Store.taken c.answer_planned.new.store ≤ mid + most_read longest (resolved (chosen_range r) c.args.size))
     c.request-in-Ok-plan_over.ensures c.answer_planned.ensures.taken)
     c.answer_planned.ensures.once
 
@@ -78,11 +81,12 @@ pub returns-in-Err-StoreFault-clause-early : goal.returns-in-Err-StoreFault-clau
 returns-in-Err-StoreFault-clause-early g c = λ object tells failed.
     let job = c.args.job.now in
     let longest = c.args.limits.longest in
-    let first = first_of (resolved job.request.range (length object)) in
+    let first = first_of (resolved (chosen_range job.request) (length object)) in
+    let beside = beside_by (quoted_dialect job.request.input) in
     let before = g.S.Store.taken c.args.store.now in
     let now = g.S.Store.taken c.plan_over.new.store in
     let written = g.K.FrameSink.written c.args.out.now in
     let header = header_taken job.request.input _ longest before now c.in-Ok.ensures.longest c.in-Err-StoreFault.ensures.taken in
-    let near : first + (now - before) ≤ first + (longest + 65538) = omega (arith, header) in
+    let near : first + (now - before) ≤ first + (longest + beside) = omega (arith, header) in
     c.unread_output_is_not_due.ensures g.K.FrameSink.wrap job.request.progress longest object job.request job.query (first + (now - before)) written written near
     (Keeps-refl written)
