@@ -1,5 +1,7 @@
 -- Where no more than a header was read of an object, no output had to be written.
-use Rattle.std.proofs.Common.{◌≡◌, ℕ, zero, suc, ◌+◌, ◌≤◌, min, Bool, List, [], ◌++◌, length, Option, None, Some, Result, Ok, Err, true, false, if◌then◌else◌, refl, sym, ap, ◌∙◌, subst, arith}
+use Rattle.std.proofs.Common.{◌≡◌, ℕ, zero, suc, ◌+◌, ◌-◌, ◌≤◌, min, Bool, List, [], ◌++◌, length, Option, None, Some, Result, Ok, Err, true, false, if◌then◌else◌, refl, sym, ap, ◌∙◌, subst, arith}
+use Rattle.std.specs.Prelude.{nat_lt, nat_le}
+use Rattle.std.proofs.lemmas.Bool.{lt-ltb, le-leb}
 use Rattle.std.specs.Io.KnownBytes.{Keeps}
 use Rattle.std.proofs.KnownBytes.{Appends-nil}
 use Rattle.select_ports.proofs.Told.{appends-kept}
@@ -44,15 +46,21 @@ none_due wrap progress longest upto done before now nothing kept = record {
 }
 
 -- the whole of an object begins at its front, and has all its bytes
+whole_places : (n : ℕ) → resolved None (suc n) ≡ Some (0, min (suc n - 1) (suc n - 1))
+unfolding resolved
+whole_places n =
+    let below : nat_lt 0 (suc n) ≡ true = lt-ltb 0 (suc n) (omega arith) in
+    let ascending : nat_le 0 (suc n - 1) ≡ true = le-leb 0 (suc n - 1) (omega arith) in
+    rw (below, ascending) refl
+
 pub whole_first : (size : ℕ) → first_of (resolved None size) ≡ 0
 unfolding resolved
 whole_first zero = refl
-whole_first (suc n) = refl
+whole_first (suc n) = ap first_of (whole_places n)
 
 pub whole_read : (longest size : ℕ) → size ≤ most_read longest (resolved None size)
-unfolding resolved
 whole_read longest zero = omega arith
-whole_read longest (suc n) = omega arith
+whole_read longest (suc n) = subst (λ range. suc n ≤ most_read longest range) (sym (whole_places n)) (omega arith)
 
 module _ (late : UnreadAreLate) (quoted_late : UnreadQuotedAreLate) where
   -- none of the records that are asked for is early
