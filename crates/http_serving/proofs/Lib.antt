@@ -1,3 +1,3 @@
 mod Lining
 mod Telling
-mod Serving
+mod OneMore

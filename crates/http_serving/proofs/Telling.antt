@@ -18,7 +18,10 @@ told_of : {A B : Type 0} (f : A → B) (o : Option A) (y : B) → option_map f o
 told_of f None y is = absurd (cc)
 told_of f (Some x) y is = refl
 
-none_yet : (o : Option (List Connection)) → is_some o ≡ true → option_map (λ _. [] {A = ℕ}) o ≡ Some []
+abbrev nothing : List Connection → List ℕ
+nothing connections = []
+
+none_yet : (o : Option (List Connection)) → is_some o ≡ true → option_map nothing o ≡ Some []
 none_yet None told = absurd (cc)
 none_yet (Some x) told = refl
 

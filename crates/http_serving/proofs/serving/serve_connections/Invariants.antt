@@ -7,8 +7,8 @@ abbrev pub invariant-loop-done : goal.invariant-loop-done
 invariant-loop-done g l =
     (l.done ≤ l.count)
     × ServesAll l.limits.longest (g.S.Store.held l.initial.store) l.done
-        (record { link = g.L.Listen.seen l.initial.link; store_faults = g.S.Store.faults l.initial.store; written = g.O.Sink.written l.initial.out })
-        (record { link = g.L.Listen.seen l.link; store_faults = g.S.Store.faults l.store; written = g.O.Sink.written l.out })
+    (record { link = g.L.Listen.seen l.initial.link; store_faults = g.S.Store.faults l.initial.store; written = g.O.Sink.written l.initial.out })
+    (record { link = g.L.Listen.seen l.link; store_faults = g.S.Store.faults l.store; written = g.O.Sink.written l.out })
     × (g.S.Store.held l.store ≡ g.S.Store.held l.initial.store)
     × (g.O.Sink.faults l.initial.out ≤ g.O.Sink.faults l.out)
 

@@ -14,8 +14,9 @@ use Rattle.select_http.specs.declared.served.End.TheVariants.{PeerClosed, AskedC
 use Rattle.select_http.specs.declared.served.Served.{Served}
 use Rattle.http_serving.specs.Lines.{line_of, lines_from}
 use Rattle.http_serving.specs.Servings.{HasStoreCause, HaveStoreCauses, Serves, ServesNext}
-use Rattle.http_serving.specs.Answers.{Seen, ServesAll, ServesOne, MissesOne, HasNoNext, LosesLine, ServesInPart, AnswersNext}
+use Rattle.http_serving.specs.Answers.{Seen, ServesAll, ServesOne, MissesOne, HasNoNext, LosesLine, ServesInPart, AnswersNext, Answers}
 use Rattle.http_serving.specs.declared.serving.ServingError.{ServingError}
+use Rattle.http_serving.specs.declared.serving.ServingError.TheVariants.{NetworkFault, OutputFault}
 use Rattle.http_serving.proofs.Lining.{lines_more}
 use Rattle.http_serving.proofs.Telling.{told_more, told_none}
 
@@ -89,7 +90,7 @@ one_longer servings last count counted = omega (arith, length-append servings (l
 number_is : (count len : ℕ) → len ≡ count → count + 1 ≡ 1 + len
 number_is count len counted = omega (arith, counted)
 
-pub one_more : (longest : ℕ) (held : Option Objects) (count : ℕ) (before mid now : Seen) → ServesAll longest held count before mid
+one_more : (longest : ℕ) (held : Option Objects) (count : ℕ) (before mid now : Seen) → ServesAll longest held count before mid
     → ServesOne longest held (count + 1) mid now → ServesAll longest held (count + 1) before now
 one_more longest held count before mid now all one =
     let joined : lines_from 1 all.servings ++ line_of (count + 1) one.served ≡ lines_from 1 (all.servings ++ one.served ∷ []) =
@@ -106,7 +107,7 @@ one_more longest held count before mid now all one =
 
 -- ---- what stops it
 
-pub misses_one : (longest : ℕ) (held : Option Objects) (done count : ℕ) (before mid now : Seen) → done < count → ServesAll longest held done before mid
+misses_one : (longest : ℕ) (held : Option Objects) (done count : ℕ) (before mid now : Seen) → done < count → ServesAll longest held done before mid
     → HasNoNext mid now → MissesOne longest held count before now
 misses_one longest held done count before mid now less all none = record {
   servings = all.servings;
@@ -117,7 +118,7 @@ misses_one longest held done count before mid now less all none = record {
   lines = subst (λ w. Appends before.written w (lines_from 1 all.servings)) (sym none.unwritten) all.lines;
 }
 
-pub loses_line : (longest : ℕ) (held : Option Objects) (done count : ℕ) (before mid now : Seen) → done < count → ServesAll longest held done before mid
+loses_line : (longest : ℕ) (held : Option Objects) (done count : ℕ) (before mid now : Seen) → done < count → ServesAll longest held done before mid
     → ServesInPart longest held (done + 1) mid now → LosesLine longest held count before now
 loses_line longest held done count before mid now less all one =
     let number : done + 1 ≡ suc (length all.servings) = omega (arith, all.counted) in
@@ -132,8 +133,15 @@ loses_line longest held done count before mid now less all one =
       lines = Appends-trans before.written mid.written now.written (lines_from 1 all.servings) one.front.front all.lines one.front.appended;
     }
 
--- ---- the store holds what it held
+pub stops : (longest : ℕ) (at held : Option Objects) (done count : ℕ) (before mid now : Seen) (error : ServingError) → at ≡ held → done < count
+    → ServesAll longest held done before mid → AnswersNext {A = Unit {0}} longest at (done + 1) mid now (Err error)
+    → Answers {A = Unit {0}} longest held count before now (Err error)
+stops longest at held done count before mid now NetworkFault same less all none = misses_one longest held done count before mid now less all none
+stops longest at held done count before mid now OutputFault same less all one =
+    loses_line longest held done count before mid now less all (subst (λ h. ServesInPart longest h (done + 1) mid now) same one)
 
-pub at_held : {A : Type 0} (longest : ℕ) (now held : Option Objects) (number : ℕ) (before after : Seen) (result : Result A ServingError)
-    → now ≡ held → AnswersNext longest now number before after result → AnswersNext longest held number before after result
-at_held longest now held number before after result same answers = subst (λ h. AnswersNext longest h number before after result) same answers
+-- the same, where the store holds what it held
+pub one_more_held : (longest : ℕ) (at held : Option Objects) (count : ℕ) (before mid now : Seen) → at ≡ held → ServesAll longest held count before mid
+    → ServesOne longest at (count + 1) mid now → ServesAll longest held (count + 1) before now
+one_more_held longest at held count before mid now same all one =
+    one_more longest held count before mid now all (subst (λ h. ServesOne longest h (count + 1) mid now) same one)
