@@ -1,6 +1,7 @@
-//! The program `lirkvod`: the commands over the files of a folder and the standard streams.
+//! The program `lirkvod`: the commands over the files of a folder, the standard streams and an address.
 #![tactic(auto)]
 
+use network_ports::TcpListen;
 use select_ports::{FileStore, StdSink, StdSource};
 use select_tool::run;
 use std::process::ExitCode;
@@ -10,7 +11,8 @@ const USAGE: &str = "usage: lirkvod FOLDER ADDRESS COMMAND ..
        lirkvod --help
        lirkvod --version
 
-FOLDER holds the objects, and ADDRESS is - for a command that needs no socket.
+FOLDER holds the objects. ADDRESS is where `serve` listens, as 127.0.0.1:8080, and - for
+a command that needs no socket.
 
 commands:
   select NAME   reads a request body (the XML of SelectObjectContent) from standard
@@ -18,7 +20,9 @@ commands:
   tile NAME CUT..
                 the same with a reply for each range between the cuts, one after the
                 other: 1 to 1,000 bytes of the object, ascending, where tiles begin
-  limit BYTES select NAME, limit BYTES tile NAME CUT..
+  serve COUNT   answers the messages of COUNT connections, 1 to 1,000,000, one after the
+                other, over HTTP/1.1, and prints a line for each
+  limit BYTES select NAME, limit BYTES tile NAME CUT.., limit BYTES serve COUNT
                 the same under a record limit of 1,024 to 16,777,216 bytes
   show          reads replies from standard input, and prints a line for each event
   records       reads replies from standard input, and writes the output that their
@@ -29,7 +33,8 @@ commands:
                 over its seven tiles: the bytes that each reply returned and scanned
 
 exit status: 0 done, 1 done with an error event, 2 bad words or no such object,
-3 input fault, 4 output fault, 5 store fault, 7 out of memory, 8 bad reply
+3 input fault, 4 output fault, 5 store fault, 6 network fault, 7 out of memory,
+8 bad reply
 ";
 
 const VERSION: &str = "lirkvod 0.1.0\n";
@@ -42,11 +47,12 @@ fn main(rt: HostRuntime) -> io::Result<ExitCode> {
     match words.as_slice() {
         [word] if word.as_str() == "--help" => print(&rt, USAGE),
         [word] if word.as_str() == "--version" => print(&rt, VERSION),
-        [folder, _address, command @ ..] => {
+        [folder, address, command @ ..] => {
             let mut store = FileStore::new(&rt, rt.alloc(), folder.as_str());
             let mut input = StdSource::new(rt.stdin());
             let mut out = StdSink::new(rt.stdout());
             let mut err = StdSink::new(rt.stderr());
+            let mut listen = TcpListen::new(&rt, address_of(address.as_str(), command));
             let status = run(
                 rt.alloc(),
                 command,
@@ -54,10 +60,20 @@ fn main(rt: HostRuntime) -> io::Result<ExitCode> {
                 &mut input,
                 &mut out,
                 &mut err,
+                &mut listen,
             );
             Ok(ExitCode::from(status))
         }
         _ => bad_words(&rt),
+    }
+}
+
+/// Where the command listens: only `serve` does.
+fn address_of<'a>(address: &'a str, command: &[String]) -> &'a str {
+    match command {
+        [verb, ..] if verb.as_str() == "serve" => address,
+        [verb, _, next, ..] if verb.as_str() == "limit" && next.as_str() == "serve" => address,
+        _ => "-",
     }
 }
 

@@ -3,6 +3,7 @@
 
 use case_tables::{Row, part, show};
 use event_frame::crc32;
+use network_ports::MemListen;
 use select_ports::{MemObject, MemSink, MemSource, MemStore};
 use select_tool::{run, select_in_memory};
 use std::alloc::Global;
@@ -76,6 +77,7 @@ fn run_case(alloc: Global, case: &Case<'_>, outside: Outside) -> Result<Ended, F
     let fails = Vec::from_array(alloc, [outside.out_fails])?;
     let mut out = MemSink::new(Vec::new(alloc), lengths, fails);
     let mut err = MemSink::new(Vec::new(alloc), Vec::new(alloc), Vec::new(alloc));
+    let mut listen = MemListen::new(Vec::new(alloc), Vec::new(alloc), Vec::new(alloc));
     let words = words(alloc, case.words)?;
     let status = run(
         alloc,
@@ -84,6 +86,7 @@ fn run_case(alloc: Global, case: &Case<'_>, outside: Outside) -> Result<Ended, F
         &mut input,
         &mut out,
         &mut err,
+        &mut listen,
     );
     Ok(Ended { status, out, err })
 }

@@ -12,7 +12,7 @@ use Rattle.event_frame.specs.Reader.{ReaderState, fresh_reader}
 use Rattle.event_frame.specs.Stream.{SpellsEvents}
 use Rattle.select_tool.specs.declared.listing.Listing.{Listing}
 use Rattle.select_tool.specs.declared.trouble.Trouble.{Trouble}
-use Rattle.select_tool.specs.declared.trouble.Trouble.TheVariants.{BadWords, NoSuchKey, InputFault, OutputFault, StoreFault, OutOfMemory, BadReply}
+use Rattle.select_tool.specs.declared.trouble.Trouble.TheVariants.{BadWords, NoSuchKey, InputFault, OutputFault, StoreFault, NetworkFault, OutOfMemory, BadReply}
 use Rattle.select_tool.specs.Endings.{longest_input, bad, long, ends_after, are_replies}
 use Rattle.select_tool.specs.Statuses.{status_of, line_of}
 use Rattle.select_tool.specs.Replies.{WritesUnlessFaulty}
@@ -259,6 +259,7 @@ failed_part NoSuchKey upto bytes more listing a b failed = absurd failed
 failed_part InputFault upto bytes more listing a b failed = absurd failed
 failed_part OutputFault upto bytes more listing a b failed = cut_part bytes more listing a b failed
 failed_part StoreFault upto bytes more listing a b failed = absurd failed
+failed_part NetworkFault upto bytes more listing a b failed = absurd failed
 failed_part OutOfMemory upto bytes more listing a b failed = absurd failed
 failed_part (BadReply place) upto bytes more listing a b failed = bad_part upto bytes more listing place a b failed
 
@@ -270,6 +271,7 @@ failed_cause NoSuchKey bytes listing left now a b input output nothing within co
 failed_cause InputFault bytes listing left now a b input output nothing within consumed rose failed = absurd failed
 failed_cause OutputFault bytes listing left now a b input output nothing within consumed rose failed = rose refl
 failed_cause StoreFault bytes listing left now a b input output nothing within consumed rose failed = failed
+failed_cause NetworkFault bytes listing left now a b input output nothing within consumed rose failed = failed
 failed_cause OutOfMemory bytes listing left now a b input output nothing within consumed rose failed = absurd failed
 failed_cause (BadReply place) bytes listing left now a b input output nothing within consumed rose failed =
     consumed_told left now bytes (λ input. IsListed listing input (bad place) a b) consumed (λ more _. gone_bad bytes more listing place a b within failed)
@@ -316,5 +318,6 @@ refused NoSuchKey listing left a b input output nothing status f g l m cause lin
 refused InputFault listing left a b input output nothing status f g l m cause line told is = absurd (omega (arith, told, is))
 refused OutputFault listing left a b input output nothing status f g l m cause line told is = absurd (omega (arith, told, is))
 refused StoreFault listing left a b input output nothing status f g l m cause line told is = absurd cause
+refused NetworkFault listing left a b input output nothing status f g l m cause line told is = absurd cause
 refused OutOfMemory listing left a b input output nothing status f g l m cause line told is = absurd (omega (arith, told, is))
 refused (BadReply place) listing left a b input output nothing status f g l m cause line told is = record { place = place; listed = cause; line = line }

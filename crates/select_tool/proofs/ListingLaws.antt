@@ -16,7 +16,7 @@ use Rattle.event_frame.specs.Stream.{SpellsEvents, Reads, IsSameReading}
 use Rattle.event_frame.specs.declared.fault.FrameFaultCode.{FrameFaultCode}
 use Rattle.select_tool.specs.declared.listing.Listing.{Listing}
 use Rattle.select_tool.specs.declared.trouble.Trouble.{Trouble}
-use Rattle.select_tool.specs.declared.trouble.Trouble.TheVariants.{BadWords, NoSuchKey, InputFault, OutputFault, StoreFault, OutOfMemory, BadReply}
+use Rattle.select_tool.specs.declared.trouble.Trouble.TheVariants.{BadWords, NoSuchKey, InputFault, OutputFault, StoreFault, NetworkFault, OutOfMemory, BadReply}
 use Rattle.select_tool.specs.Endings.{ends_reply, ends_after, is_error}
 use Rattle.select_tool.specs.Listings.{Adds, Lists, IsListedInPart}
 use Rattle.select_tool.specs.Listening.{Stand, after_event, after_events, IsReady, CameIn, Answers, AnswersBad, FailsAt}
@@ -201,6 +201,7 @@ fails_then NoSuchKey upto bytes rest more s t a b c first second = second
 fails_then InputFault upto bytes rest more s t a b c first second = second
 fails_then OutputFault upto bytes rest more s t a b c first second = part_then bytes rest more s t a b c first second
 fails_then StoreFault upto bytes rest more s t a b c first second = second
+fails_then NetworkFault upto bytes rest more s t a b c first second = second
 fails_then OutOfMemory upto bytes rest more s t a b c first second = second
 fails_then (BadReply place) upto bytes rest more s t a b c first second = bad_then upto bytes rest more s t place a b c first second
 

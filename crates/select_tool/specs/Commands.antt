@@ -6,13 +6,14 @@ use Rattle.select_ports.specs.Streams.{AppendsFront}
 use Rattle.select_tool.specs.declared.listing.Listing.{Listing}
 use Rattle.sample_objects.specs.declared.kind.SampleKind.{SampleKind}
 use Rattle.sample_objects.specs.Objects.{sample}
-use Rattle.select_tool.specs.Words.{Order, selects, tiles, lists, makes, demonstrates}
+use Rattle.select_tool.specs.Words.{Order, selects, tiles, lists, makes, demonstrates, serves}
 use Rattle.select_tool.specs.Demo.{Demonstrates, DemonstratesInPart}
 use Rattle.select_tool.specs.Seen.{Outside}
 use Rattle.select_tool.specs.Input.{IsUnread}
 use Rattle.select_tool.specs.Replies.{IfTold, IsReplied, IsCutShort, IsHeld, IsLacking, NotHeldBack, Misses, TookNear, TookTwice}
 use Rattle.select_tool.specs.Tiles.{IsTiledShort, IsTiledToReply, TookNearTiles, TookTwiceATile}
 use Rattle.select_tool.specs.Whole.{IsTiled}
+use Rattle.select_tool.specs.Serves.{AnswersServe}
 use Rattle.select_tool.specs.Listings.{IsAnswered, IsListedInPart, IsRefused, FailsInput}
 
 -- `select` and `tile` alike, about the object of a name
@@ -133,3 +134,4 @@ Answers (Some (tiles longest name cuts)) status before now = AnswersTile longest
 Answers (Some (lists listing)) status before now = AnswersListing listing status before now
 Answers (Some (makes kind count)) status before now = AnswersSample kind count status before now
 Answers (Some (demonstrates count)) status before now = AnswersDemo count status before now
+Answers (Some (serves longest count)) status before now = AnswersServe longest count status before now

@@ -2,7 +2,7 @@
 use Rattle.std.specs.Prelude.{◌≡◌, ℕ, ◌+◌, ◌≤◌, List, [], ◌++◌, length, Option, None, Some, IfSome}
 use Rattle.std.specs.Io.KnownBytes.{Keeps}
 use Rattle.select_request.specs.Reading.{longest_body}
-use Rattle.select_tool.specs.Words.{Order, selects, tiles, lists, makes, demonstrates}
+use Rattle.select_tool.specs.Words.{Order, selects, tiles, lists, makes, demonstrates, serves}
 use Rattle.select_tool.specs.Endings.{longest_input}
 
 -- all that an input holds, as far as a body may go and one byte further
@@ -35,3 +35,4 @@ most_read (Some (tiles longest name cuts)) = most_of_body
 most_read (Some (lists listing)) = most_of_replies
 most_read (Some (makes kind count)) = 0
 most_read (Some (demonstrates count)) = 0
+most_read (Some (serves longest count)) = 0

@@ -10,4 +10,5 @@ pub mod Tiles
 pub mod Whole
 pub mod Demo
 pub mod Seen
+pub mod Serves
 pub mod Commands

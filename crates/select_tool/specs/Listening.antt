@@ -11,7 +11,7 @@ use Rattle.event_frame.specs.declared.fault.FrameFaultCode.{FrameFaultCode}
 use Rattle.select_tool.specs.declared.listing.Listing.{Listing}
 use Rattle.select_tool.specs.declared.lister.Lister.TheInside.{Inside}
 use Rattle.select_tool.specs.declared.trouble.Trouble.{Trouble}
-use Rattle.select_tool.specs.declared.trouble.Trouble.TheVariants.{BadWords, NoSuchKey, InputFault, OutputFault, StoreFault, OutOfMemory, BadReply}
+use Rattle.select_tool.specs.declared.trouble.Trouble.TheVariants.{BadWords, NoSuchKey, InputFault, OutputFault, StoreFault, NetworkFault, OutOfMemory, BadReply}
 use Rattle.select_tool.specs.Endings.{longest_input, ends_reply, ends_after, is_error}
 use Rattle.select_tool.specs.Listings.{Adds, Lists, IsListedInPart}
 
@@ -82,6 +82,7 @@ FailsAt NoSuchKey upto bytes listing before now = ⊥
 FailsAt InputFault upto bytes listing before now = ⊥
 FailsAt OutputFault upto bytes listing before now = IsListedInPart listing bytes before now
 FailsAt StoreFault upto bytes listing before now = ⊥
+FailsAt NetworkFault upto bytes listing before now = ⊥
 FailsAt OutOfMemory upto bytes listing before now = ⊥
 FailsAt (BadReply place) upto bytes listing before now = AnswersBad upto bytes listing place before now
 

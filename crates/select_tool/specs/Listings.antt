@@ -10,7 +10,7 @@ use Rattle.select_tool.specs.declared.listing.Listing.TheVariants.{Lines, Payloa
 use Rattle.select_tool.specs.Lines.{IsLine}
 use Rattle.select_tool.specs.Endings.{Ending, replied, bad, long, EndsWith, longest_input}
 use Rattle.select_tool.specs.declared.trouble.Trouble.{Trouble}
-use Rattle.select_tool.specs.declared.trouble.Trouble.TheVariants.{BadWords, NoSuchKey, InputFault, OutputFault, StoreFault, OutOfMemory, BadReply}
+use Rattle.select_tool.specs.declared.trouble.Trouble.TheVariants.{BadWords, NoSuchKey, InputFault, OutputFault, StoreFault, NetworkFault, OutOfMemory, BadReply}
 use Rattle.select_tool.specs.Statuses.{line_of}
 use Rattle.select_tool.specs.Replies.{WritesUnlessFaulty}
 
@@ -85,6 +85,7 @@ ListingCause NoSuchKey bad_at input output nothing = ⊥
 ListingCause InputFault bad_at input output nothing = input
 ListingCause OutputFault bad_at input output nothing = output
 ListingCause StoreFault bad_at input output nothing = ⊥
+ListingCause NetworkFault bad_at input output nothing = ⊥
 ListingCause OutOfMemory bad_at input output nothing = nothing
 ListingCause (BadReply place) bad_at input output nothing = bad_at place
 

@@ -9,8 +9,8 @@ use Rattle.select_job.specs.declared.asked.Asked.TheVariants.{Refused, Asks}
 use Rattle.select_reply.specs.declared.outcome.Outcome.{Outcome}
 use Rattle.select_reply.specs.declared.outcome.Outcome.TheVariants.{Done, Faulted}
 use Rattle.select_tool.specs.declared.trouble.Trouble.{Trouble}
-use Rattle.select_tool.specs.declared.trouble.Trouble.TheVariants.{BadWords, NoSuchKey, InputFault, OutputFault, StoreFault, OutOfMemory, BadReply}
-use Rattle.select_tool.specs.Words.{Order, longest_record, selects, tiles, lists, makes, demonstrates}
+use Rattle.select_tool.specs.declared.trouble.Trouble.TheVariants.{BadWords, NoSuchKey, InputFault, OutputFault, StoreFault, NetworkFault, OutOfMemory, BadReply}
+use Rattle.select_tool.specs.Words.{Order, longest_record, selects, tiles, lists, makes, demonstrates, serves}
 use Rattle.select_job.specs.Prepared.{Prepares}
 use Rattle.select_reply.specs.Events.{wrapped_frames}
 use Rattle.scan_ranges.specs.Resolved.{resolved}
@@ -109,6 +109,7 @@ CauseOf NoSuchKey missing input output store memory nothing = missing × nothing
 CauseOf InputFault missing input output store memory nothing = input × nothing
 CauseOf OutputFault missing input output store memory nothing = output
 CauseOf StoreFault missing input output store memory nothing = store
+CauseOf NetworkFault missing input output store memory nothing = ⊥
 CauseOf OutOfMemory missing input output store memory nothing = memory
 CauseOf (BadReply at) missing input output store memory nothing = ⊥
 
@@ -120,6 +121,7 @@ IsStatusOf (Some (tiles longest name cuts)) status = (status < 6) ⊎ (status �
 IsStatusOf (Some (lists listing)) status = (status < 2) ⊎ (status ≡ 3) ⊎ (status ≡ 4) ⊎ (status ≡ 7) ⊎ (status ≡ 8)
 IsStatusOf (Some (makes kind count)) status = (status ≡ 0) ⊎ (status ≡ 4)
 IsStatusOf (Some (demonstrates count)) status = (status ≡ 0) ⊎ (status ≡ 4) ⊎ (status ≡ 7)
+IsStatusOf (Some (serves longest count)) status = (status ≡ 0) ⊎ (status ≡ 4) ⊎ (status ≡ 6)
 
 -- the line on the error output at any status but 8: none where the command was done
 abbrev pub line_of_status : Option Order → ℕ → List ℕ
@@ -129,6 +131,7 @@ line_of_status (Some order) status =
     else if status == 3 then line_of InputFault
     else if status == 4 then line_of OutputFault
     else if status == 5 then line_of StoreFault
+    else if status == 6 then line_of NetworkFault
     else if status == 7 then line_of OutOfMemory
     else []
 

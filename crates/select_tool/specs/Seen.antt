@@ -1,6 +1,7 @@
 -- What is outside of a command, as it shows.
 use Rattle.std.specs.Prelude.{ℕ, List, Option}
 use Rattle.select_ports.specs.Stored.{Objects, Opened}
+use Rattle.network_ports.specs.Calls.{Link}
 
 -- a store: the objects that it tells, the open one, how many bytes were read, how many names weren't found, and how many calls failed
 pub record StoreSeen : Type 0 where
@@ -21,9 +22,10 @@ pub record SinkSeen : Type 0 where
   pub written : Option (List ℕ)
   pub faults : ℕ
 
--- all four
+-- all four, and the side that listens
 pub record Outside : Type 0 where
   pub store : StoreSeen
   pub input : SourceSeen
   pub out : SinkSeen
   pub err : SinkSeen
+  pub link : Link

@@ -10,17 +10,18 @@ use Rattle.record_stream.specs.Tiling.{Ascend}
 use Rattle.select_tool.specs.declared.listing.Listing.{Listing}
 use Rattle.select_tool.specs.declared.listing.Listing.TheVariants.{Lines, Payloads}
 use Rattle.select_tool.specs.declared.words.Command.{Command}
-use Rattle.select_tool.specs.declared.words.Command.TheVariants.{Select, Tile, List as Listed, Sample, Demo}
+use Rattle.select_tool.specs.declared.words.Command.TheVariants.{Select, Tile, List as Listed, Sample, Demo, Serve}
 
 -- what words ask for: under a record limit in bytes, the reply about the object of a name; the replies to the tiles of such an object, by
--- these cuts; a listing of the replies on the input; the sample object of a kind with so many records; or a summary of a query over the
--- sample object with so many records and over its tiles
+-- these cuts; a listing of the replies on the input; the sample object of a kind with so many records; a summary of a query over the
+-- sample object with so many records and over its tiles; or, under a record limit, so many connections served
 pub data Order : Type 0 where
   selects : ℕ → List ℕ → Order
   tiles : ℕ → List ℕ → List ℕ → Order
   lists : Listing → Order
   makes : SampleKind → ℕ → Order
   demonstrates : ℕ → Order
+  serves : ℕ → ℕ → Order
 
 -- the word of a listing
 abbrev pub listing_of : List ℕ → Option Listing
@@ -67,12 +68,23 @@ abbrev pub selection : ℕ → List ℕ → List ℕ → List (String Global) �
 selection longest verb name [] = if bytes_eq verb (codes "select") then Some (selects longest name) else None
 selection longest verb name (word ∷ words) = None
 
--- `select NAME` and `tile NAME CUT..`, under a record limit
+-- the number in these bounds, if it is there
+abbrev pub within : ℕ → ℕ → Option ℕ → Option ℕ
+within least most None = None
+within least most (Some number) = if nat_le least number && nat_le number most then Some number else None
+
+-- `serve COUNT`, behind its first word
+abbrev pub serving_of : ℕ → List ℕ → List (String Global) → Option Order
+serving_of longest count [] = option_map (serves longest) (within 1 1000000 (number_of count))
+serving_of longest count (word ∷ words) = None
+
+-- `select NAME`, `tile NAME CUT..` and `serve COUNT`, under a record limit
 unfoldable pub about : ℕ → List (String Global) → Option Order
 about longest [] = None
 about longest (verb ∷ []) = None
 about longest (verb ∷ name ∷ words) =
     if bytes_eq (string_bytes verb) (codes "tile") then option_map (tiles longest (string_bytes name)) (cuts_of words)
+    else if bytes_eq (string_bytes verb) (codes "serve") then serving_of longest (string_bytes name) words
     else selection longest (string_bytes verb) (string_bytes name) words
 
 -- the record limit where none is chosen, and the least and the largest one, in bytes
@@ -98,11 +110,6 @@ kind_of word =
     else if bytes_eq word (codes "jsonl") then Some JsonLines
     else None
 
--- the number in these bounds, if it is there
-abbrev pub within : ℕ → ℕ → Option ℕ → Option ℕ
-within least most None = None
-within least most (Some number) = if nat_le least number && nat_le number most then Some number else None
-
 -- `gen KIND N`, behind its first word
 abbrev pub sample_by : Option SampleKind → Option ℕ → Option Order
 sample_by None count = None
@@ -118,8 +125,8 @@ abbrev pub demo_of : List ℕ → List (String Global) → Option Order
 demo_of count [] = option_map demonstrates (within 1 1000000 (number_of count))
 demo_of count (word ∷ words) = None
 
--- `select NAME` and `tile NAME CUT..`, with `limit BYTES` before them where a record limit is chosen; `show` and `records`; `gen KIND N`
--- and `demo N`. Other words are no command
+-- `select NAME`, `tile NAME CUT..` and `serve COUNT`, with `limit BYTES` before them where a record limit is chosen; `show` and
+-- `records`; `gen KIND N` and `demo N`. Other words are no command
 unfoldable pub ordered : List (String Global) → Option Order
 ordered [] = None
 ordered (verb ∷ []) = option_map lists (listing_of (string_bytes verb))
@@ -136,6 +143,7 @@ order_of (Tile limits name cuts) = tiles limits.longest name.now cuts.items
 order_of (Listed listing) = lists listing
 order_of (Sample kind count) = makes kind count
 order_of (Demo count) = demonstrates count
+order_of (Serve limits count) = serves limits.longest count
 
 -- the record limit and the number of records of a command are within their bounds
 abbrev pub IsBounded : Command → Type 0
@@ -144,6 +152,7 @@ IsBounded (Tile limits name cuts) = limits.longest ≤ 16777216
 IsBounded (Listed listing) = Unit {0}
 IsBounded (Sample kind count) = count ≤ 10000000
 IsBounded (Demo count) = (1 ≤ count) × (count ≤ 1000000)
+IsBounded (Serve limits count) = limits.longest ≤ 16777216
 
 -- the cuts of a command ascend
 abbrev pub HasAscendingCuts : Command → Type 0
@@ -152,3 +161,4 @@ HasAscendingCuts (Tile limits name cuts) = Ascend 0 cuts.items
 HasAscendingCuts (Listed listing) = Unit {0}
 HasAscendingCuts (Sample kind count) = Unit {0}
 HasAscendingCuts (Demo count) = Unit {0}
+HasAscendingCuts (Serve limits count) = Unit {0}

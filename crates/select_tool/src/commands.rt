@@ -6,7 +6,9 @@ ghost use Rattle.select_ports.specs.Streams.{AppendsFront};
 ghost use Rattle.sample_objects.specs.Objects.{sample};
 ghost use Rattle.record_stream.specs.Tiling.{Ascend};
 ghost use Rattle.select_tool.specs.Commands.{Answers};
-ghost use Rattle.select_tool.specs.Words.{selects, tiles, lists, makes, demonstrates, ordered};
+ghost use Rattle.http_serving.specs.Answers.{LosesLine, MissesOne, ServesAll};
+ghost use Rattle.select_tool.specs.Serves.{KeepsLink};
+ghost use Rattle.select_tool.specs.Words.{selects, tiles, lists, makes, demonstrates, serves, ordered};
 ghost use Rattle.select_tool.specs.Demo.{Demonstrates, DemonstratesInPart};
 ghost use Rattle.select_tool.specs.Input.{IsUnread, most_of_body, most_of_replies, most_read};
 ghost use Rattle.select_tool.specs.Replies.{IfTold, IsReplied, IsCutShort, IsHeld, IsLacking, NotHeldBack, Misses, TookNear};
@@ -20,9 +22,11 @@ use crate::demo::demonstrate;
 use crate::listing::Listing;
 use crate::replies::list;
 use crate::select::select;
+use crate::serve::serve;
 use crate::tile::tile;
 use crate::trouble::Trouble;
 use crate::words::{Command, command_of};
+use network_ports::Listen;
 use sample_objects::{SampleKind, write_sample};
 use select_engine::Outcome;
 use select_ports::{Failed, Limits, Sink, Source, Store, write_all};
@@ -33,8 +37,13 @@ use std::alloc::Global;
 /// `select NAME` opens the object NAME, reads a request body from the input, and writes one reply to `out`. `tile NAME CUT..` does the
 /// same with a reply for each range between the cuts, which take the place of the body's own range: from byte 0 up to the first cut,
 /// from each cut up to the next, and from the last cut on. It takes 1 to 1,000 cuts, ascending, each from 1 to 2^63 - 1. A body that
-/// is refused, or whose object allows no ranges, is refused once. `limit BYTES` before the words of either chooses the record limit, from
-/// 1,024 to 16,777,216 bytes; without it the limit is 1,048,576.
+/// is refused, or whose object allows no ranges, is refused once.
+///
+/// `serve COUNT` takes so many connections of `listen`, 1 to 1,000,000, one after the other, answers the messages of each over HTTP/1.1
+/// until it ends, and then writes its line `connection K requests R END`. A connection that fails costs the others nothing.
+///
+/// `limit BYTES` before the words of these three chooses the record limit, from 1,024 to 16,777,216 bytes; without it the limit is
+/// 1,048,576.
 ///
 /// `show` reads replies from the input, and writes a line for each event: `Records N` with the number of bytes, `Cont`,
 /// `Progress S P R`, `Stats S P R`, `End` and `Error CODE MESSAGE`. The three numbers are `?` where the payload has no counts of the
@@ -55,17 +64,19 @@ use std::alloc::Global;
 /// | 3 | the input failed, or gave more than 2^40 bytes to `show` or `records` | `input fault` |
 /// | 4 | the output failed | `output fault` |
 /// | 5 | the store failed | `store fault` |
+/// | 6 | `serve`: the next connection couldn't be taken | `network fault` |
 /// | 7 | memory was refused, before anything was written, for `show` and `records` before anything was read; `tile` may have written some replies, each whole | `out of memory` |
 /// | 8 | `show`, `records`: a frame is bad at the place P of the input, or the input ends at P inside a reply or before the first one | `bad reply at P` |
 ///
 /// A failure of `err` is passed over.
-pub fn run<S: Store, I: Source, O: Sink, E: Sink>(
+pub fn run<S: Store, I: Source, O: Sink, E: Sink, N: Listen>(
     alloc: Global,
     words: &[String],
     store: &mut S,
     input: &mut I,
     out: &mut O,
     err: &mut E,
+    listen: &mut N,
 ) -> u8
     // What the command answers, by what is outside before and after it: a record for each command.
     ensures answers { Answers (ordered words.now) result
@@ -80,6 +91,7 @@ pub fn run<S: Store, I: Source, O: Sink, E: Sink>(
           input = record { left = I.left input.old; taken = I.taken input.old; faults = I.faults input.old };
           out = record { written = O.written out.old; faults = O.faults out.old };
           err = record { written = E.written err.old; faults = E.faults err.old };
+          link = N.seen listen.old;
         })
         (record {
           store = record {
@@ -92,6 +104,7 @@ pub fn run<S: Store, I: Source, O: Sink, E: Sink>(
           input = record { left = I.left input.new; taken = I.taken input.new; faults = I.faults input.new };
           out = record { written = O.written out.new; faults = O.faults out.new };
           err = record { written = E.written err.new; faults = E.faults err.new };
+          link = N.seen listen.new;
         }) }
     // The status is one of the command's.
     ensures only { IsStatusOf (ordered words.now) result }
@@ -100,6 +113,8 @@ pub fn run<S: Store, I: Source, O: Sink, E: Sink>(
         (line_of_status (ordered words.now) result) }
     // The input is read no further than one byte past the longest body, or past the most that is read of replies.
     ensures input_taken { I.taken input.new ≤ I.taken input.old + most_read (ordered words.now) }
+    // Only `serve` uses the side that listens.
+    ensures link { KeepsLink (ordered words.now) (N.seen listen.old) (N.seen listen.new) }
     ensures held { S.held store.new ≡ S.held store.old }
 {
     match command_of(words) {
@@ -119,6 +134,9 @@ pub fn run<S: Store, I: Source, O: Sink, E: Sink>(
         Some(Command::List(listing)) => run_list(alloc, listing, input, out, err),
         Some(Command::Sample(kind, count)) => run_sample(kind, count, out, err),
         Some(Command::Demo(count)) => run_demo(alloc, count, out, err),
+        Some(Command::Serve(limits, count)) => {
+            run_serve(alloc, limits, count, store, out, err, listen)
+        }
         None => report(err, Trouble::BadWords),
     }
 }
@@ -291,6 +309,41 @@ fn run_demo<O: Sink, E: Sink>(alloc: Global, count: u64, out: &mut O, err: &mut 
         (line_of_status (Some (demonstrates count)) result) }
 {
     match demonstrate(alloc, count, out) {
+        Ok(()) => 0,
+        Err(trouble) => report(err, trouble),
+    }
+}
+
+// The command `serve COUNT`.
+fn run_serve<S: Store, O: Sink, E: Sink, N: Listen>(
+    alloc: Global,
+    limits: Limits,
+    count: u64,
+    store: &mut S,
+    out: &mut O,
+    err: &mut E,
+    listen: &mut N,
+) -> u8
+    requires { limits.longest ≤ 16777216 }
+    ensures all { result ≡ 0 → ServesAll limits.longest (S.held store.old) count
+        (record { link = N.seen listen.old; store_faults = S.faults store.old; written = O.written out.old })
+        (record { link = N.seen listen.new; store_faults = S.faults store.new; written = O.written out.new }) }
+    ensures six { result ≡ 6 → MissesOne limits.longest (S.held store.old) count
+        (record { link = N.seen listen.old; store_faults = S.faults store.old; written = O.written out.old })
+        (record { link = N.seen listen.new; store_faults = S.faults store.new; written = O.written out.new }) }
+    ensures missed { result ≡ 6 → Rose (N.seen listen.old).missed (N.seen listen.new).missed }
+    ensures four { result ≡ 4 → LosesLine limits.longest (S.held store.old) count
+        (record { link = N.seen listen.old; store_faults = S.faults store.old; written = O.written out.old })
+        (record { link = N.seen listen.new; store_faults = S.faults store.new; written = O.written out.new }) }
+    ensures failed { result ≡ 4 → Rose (O.faults out.old) (O.faults out.new) }
+    ensures only { (result ≡ 0) ⊎ (result ≡ 4) ⊎ (result ≡ 6) }
+    ensures complete { ¬ (Rose (N.seen listen.old).missed (N.seen listen.new).missed)
+        → ¬ (Rose (O.faults out.old) (O.faults out.new)) → result ≡ 0 }
+    ensures line { WritesUnlessFaulty (E.faults err.old) (E.faults err.new) (E.written err.old) (E.written err.new)
+        (line_of_status (Some (serves limits.longest count)) result) }
+    ensures held { S.held store.new ≡ S.held store.old }
+{
+    match serve(alloc, limits, count, store, out, listen) {
         Ok(()) => 0,
         Err(trouble) => report(err, trouble),
     }

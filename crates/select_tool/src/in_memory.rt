@@ -4,6 +4,7 @@ ghost use Rattle.select_tool.specs.Replies.{IsReplyInMemory};
 
 use crate::commands::run;
 use lent_ports::{GrowingSink, LentSource, LentStore};
+use network_ports::MemListen;
 use std::alloc::{AllocError, Global};
 
 /// The reply to a request body about an object, under the record limit of 1,048,576 bytes: what `select NAME` writes for them. It is an
@@ -23,6 +24,7 @@ pub fn select_in_memory(
     let mut input = LentSource::of(body);
     let mut out = GrowingSink::empty(alloc);
     let mut err = GrowingSink::empty(alloc);
+    let mut listen = MemListen::new(Vec::new(alloc), Vec::new(alloc), Vec::new(alloc));
     let status = run(
         alloc,
         words.as_slice(),
@@ -30,6 +32,7 @@ pub fn select_in_memory(
         &mut input,
         &mut out,
         &mut err,
+        &mut listen,
     );
     if status < 2 {
         Ok(out.into_bytes())

@@ -1,5 +1,5 @@
 //! The reply of a command is exactly the frames of the events that the query means: the top call, from the words to the exit
-//! status, over any store, input and outputs.
+//! status, over any store, input, outputs and connections.
 #![tactic(auto)]
 
 mod commands;
@@ -11,6 +11,7 @@ mod lister;
 mod listing;
 mod replies;
 mod select;
+mod serve;
 mod show;
 mod tile;
 mod trouble;

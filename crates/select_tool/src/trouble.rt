@@ -13,6 +13,7 @@ pub(crate) enum Trouble {
     InputFault,
     OutputFault,
     StoreFault,
+    NetworkFault,
     OutOfMemory,
     /// The bytes on the input aren't replies, which shows at this place: the place of a bad frame, or the input's end.
     BadReply { at: u64 },
@@ -28,6 +29,7 @@ impl Trouble {
             Trouble::InputFault => 3,
             Trouble::OutputFault => 4,
             Trouble::StoreFault => 5,
+            Trouble::NetworkFault => 6,
             Trouble::OutOfMemory => 7,
             Trouble::BadReply { .. } => 8,
         }
@@ -44,6 +46,7 @@ impl Trouble {
             Trouble::InputFault => line.push_str("input fault"),
             Trouble::OutputFault => line.push_str("output fault"),
             Trouble::StoreFault => line.push_str("store fault"),
+            Trouble::NetworkFault => line.push_str("network fault"),
             Trouble::OutOfMemory => line.push_str("out of memory"),
             Trouble::BadReply { at } => {
                 line.push_str("bad reply at ");

@@ -3,7 +3,7 @@ ghost use Rattle.std.specs.Prelude.{◌≡◌, ◌≤◌, true, length, IfSome};
 ghost use Rattle.std.specs.Option.{option_map};
 ghost use Rattle.select_tool.specs.Words.{tiles, ordered, order_of, has_leading_zero, number_of, above, is_few, cuts_above};
 ghost use Rattle.select_tool.specs.Words.{cuts_of, HasAscendingCuts, IsBounded, about, is_limit, limit_of, limited};
-ghost use Rattle.select_tool.specs.Words.{demo_of, kind_of, sample_of, within};
+ghost use Rattle.select_tool.specs.Words.{demo_of, kind_of, sample_of, serving_of, within};
 
 use crate::listing::Listing;
 use arrayvec::ArrayVec;
@@ -24,6 +24,9 @@ const LARGEST_LIMIT: u64 = 16_777_216;
 /// The most records of the object that a query is shown over.
 const LARGEST_DEMO: u64 = 1_000_000;
 
+/// The most connections that are served.
+const MOST_CONNECTIONS: u64 = 1_000_000;
+
 /// A command.
 pub(crate) enum Command<'w> {
     /// `select NAME`: the reply about the object of this name, under a record limit.
@@ -36,6 +39,8 @@ pub(crate) enum Command<'w> {
     Sample(SampleKind, u64),
     /// `demo N`: the summary of a query over the sample object with so many records, and over its tiles.
     Demo(u64),
+    /// `serve COUNT`: so many connections served, under a record limit.
+    Serve(Limits, u64),
 }
 
 /// The command that the words say, if they say one.
@@ -157,7 +162,26 @@ fn about(limits: Limits, words: &[String]) -> Option<Command<'_>>
         [verb, name, cuts @ ..] if verb.as_str() == "tile" => {
             tiling_of(limits, name.as_str(), cuts)
         }
+        [verb, count, words @ ..] if verb.as_str() == "serve" => {
+            serving_of(limits, count.as_str(), words)
+        }
         [verb, name] if verb.as_str() == "select" => Some(Command::Select(limits, name.as_str())),
+        _ => None,
+    }
+}
+
+// The command that the words behind `serve` say, under a record limit.
+fn serving_of<'w>(limits: Limits, count: &str, words: &'w [String]) -> Option<Command<'w>>
+    requires { limits.longest ≤ 16777216 }
+    ensures order { option_map order_of result ≡ serving_of limits.longest count.now words.now }
+    ensures ascend { IfSome result HasAscendingCuts }
+    ensures small { IfSome result IsBounded }
+{
+    match words {
+        [] => {
+            let count = within(1, MOST_CONNECTIONS, number(count))?;
+            Some(Command::Serve(limits, count))
+        }
         _ => None,
     }
 }

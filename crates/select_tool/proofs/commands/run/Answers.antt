@@ -4,7 +4,7 @@ use Rattle.std.specs.Io.KnownBytes.{Keeps}
 use Rattle.select_tool.specs.Input.{IsUnread}
 use Rattle.select_tool.specs.Commands.{Answers}
 use Rattle.select_tool.specs.Seen.{Outside}
-use Rattle.select_tool.specs.Words.{Order, selects, tiles, lists, makes, demonstrates, order_of, ordered}
+use Rattle.select_tool.specs.Words.{Order, selects, tiles, lists, makes, demonstrates, serves, order_of, ordered}
 use Rattle.select_tool.proofs.commands.run.Goals as goal
 
 given : (order : Option Order) (is : Order) (status : ℕ) (before now : Outside) → order ≡ Some is → Answers (Some is) status before now → Answers order status before now
@@ -96,4 +96,20 @@ returns-in-Some-Demo-clause-answers g c =
       complete = e.complete;
       unread = unread _ _;
       unused = refl;
+    })
+
+pub returns-in-Some-Serve-clause-answers : goal.returns-in-Some-Serve-clause-answers
+returns-in-Some-Serve-clause-answers g c =
+    let s = c.in-Some-Serve in
+    let chosen : ordered c.args.words.now ≡ Some (serves s.limits.longest s.count) =
+    sym c.command_of.ensures.order ∙ ap (option_map order_of) s.is ∙ ap (λ o. Some (order_of o)) s.field-0-is in
+    let e = c.run_serve.ensures in
+    given (ordered c.args.words.now) (serves s.limits.longest s.count) _ _ _ chosen (record {
+      all = e.all;
+      six = e.six;
+      missed = e.missed;
+      four = e.four;
+      failed = e.failed;
+      complete = e.complete;
+      unread = refl;
     })
