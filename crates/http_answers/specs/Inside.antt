@@ -1,5 +1,5 @@
 -- How the fields of a reader show where it stands.
-use Rattle.std.specs.Prelude.{◌≡◌, ℕ, ◌<◌, ◌≤◌, ◌==◌, List, [], length, if◌then◌else◌, vec_capacity}
+use Rattle.std.specs.Prelude.{◌≡◌, ℕ, ◌<◌, ◌≤◌, ◌==◌, List, [], length, if◌then◌else◌, Result, Ok, Err, vec_capacity}
 use Rattle.httparse.specs.Grammar.{HasNoChunkLine, HasNoResponse}
 use Rattle.http_answers.specs.Chunked.{IsEndingFront}
 use Rattle.http_answers.specs.Replies.{Reading}
@@ -7,7 +7,10 @@ use Rattle.http_answers.specs.declared.extent.Extent.{Extent}
 use Rattle.http_answers.specs.declared.extent.Extent.TheVariants as extent
 use Rattle.http_answers.specs.declared.place.Place.{Place}
 use Rattle.http_answers.specs.declared.place.Place.TheVariants as place
+use Rattle.http_answers.specs.declared.place.Step.{Step}
+use Rattle.http_answers.specs.declared.place.Step.TheVariants as step
 use Rattle.http_answers.specs.declared.place.Cause.TheVariants as cause
+use Rattle.http_answers.specs.declared.place.Malformed.{Malformed}
 use Rattle.http_answers.specs.declared.reader.ReplyReader.TheInside.{Inside}
 
 abbrev pub reading_of : Inside → Reading
@@ -45,3 +48,14 @@ behind_line size = if size == 0 then place.Last else place.Data size
 -- in a chunk of which so many bytes are to come
 abbrev pub behind_data : ℕ → Place
 behind_data left = if left == 0 then place.Ending else place.Data left
+
+-- what a reader answers that stands there behind so many bytes that aren't the body's
+abbrev pub reached : Place → ℕ → Result Step Malformed
+reached place.Head n = Ok (step.Passed n)
+reached place.Open n = Ok (step.Passed n)
+reached (place.Left left) n = Ok (step.Passed n)
+reached place.Line n = Ok (step.Passed n)
+reached (place.Data left) n = Ok (step.Passed n)
+reached place.Ending n = Ok (step.Passed n)
+reached place.Last n = Ok (step.Passed n)
+reached (place.Bad fault) n = Err fault

@@ -1,6 +1,6 @@
 //! A reply, read from pieces of any lengths.
 ghost use Rattle.std.specs.Prelude.{◌≡◌, ℕ, ◌+◌, ◌^◌, ◌<◌, IfOk, length, min};
-ghost use Rattle.http_answers.specs.Inside.{behind_data, behind_head, behind_line};
+ghost use Rattle.http_answers.specs.Inside.{behind_data, behind_head, behind_line, reached};
 ghost use Rattle.http_answers.specs.Heads.{is_interim};
 ghost use Rattle.http_answers.specs.Replies.{fresh, Reads};
 ghost use Rattle.http_answers.specs.declared.place.Place.TheVariants as place;
@@ -75,6 +75,16 @@ fn behind_head(extent: Extent, at: u64) -> Place
         Extent::Counted(size) => Place::Left(size),
         Extent::UntilClose => Place::Open,
         Extent::Unclear => Place::Bad(bad(Cause::Extent, at)),
+    }
+}
+
+/// What a reader answers that stands there behind so many bytes that aren't the body's.
+fn reached(place: Place, count: usize) -> Result<Step, Malformed>
+    ensures { result ≡ reached place count }
+{
+    match place {
+        Place::Bad(fault) => Err(fault),
+        _ => Ok(Step::Passed(count)),
     }
 }
 
@@ -186,10 +196,7 @@ impl ReplyReader {
                 }
                 self.status = Some(status);
                 self.place = behind_head(extent, start);
-                match self.place {
-                    Place::Bad(fault) => Err(fault),
-                    _ => Ok(Step::Passed(count)),
-                }
+                reached(self.place, count)
             }
         }
     }
