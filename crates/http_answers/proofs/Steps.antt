@@ -1,5 +1,6 @@
 -- What a step of a head, a line, an ending or a chunk makes of a reply that came so far.
-use Rattle.std.proofs.Common.{◌≡◌, ℕ, zero, suc, ◌+◌, ◌-◌, ◌<◌, ◌≤◌, ◌⊎◌, inl, inr, Bool, true, false, List, [], ◌∷◌, ◌++◌, length, take, min, Option, None, Some, refl, sym, ap, ◌∙◌, subst, arith, append_assoc, append-nil, length-append, length-take}
+use Rattle.std.proofs.Common.{◌≡◌, ℕ, zero, suc, ◌+◌, ◌-◌, ◌<◌, ◌≤◌, ◌⊎◌, inl, inr, Bool, true, false, true≢false, ◌==◌, if◌then◌else◌, List, [], ◌∷◌, ◌++◌, length, take, min, Option, None, Some, refl, sym, ap, ◌∙◌, subst, arith, append_assoc, append-nil, length-append, length-take}
+use Rattle.std.proofs.lemmas.Bool.Decides.{nat_tests}
 use Rattle.httparse.specs.Ascii.{crlf_bytes}
 use Rattle.httparse.specs.Grammar.{ChunkLine, ResponseHead, chunk_size, print_chunk_line, print_response, status_code}
 use Rattle.http_answers.specs.Chunked.{Chunk, ChunksThen, InChunk, IsChunkedBody, IsEndingFront, IsLine, IsNoEnding, IsNoLine, coded, contents_of, print_chunk}
@@ -71,7 +72,7 @@ interim_ended came body kept piece new old n status e at ends interim =
       short = omega arith;
     }
 
-pub final_ended : (came body kept piece new : List ℕ) (old : Option ℕ) (n status : ℕ) (e : Extent) → AtHead came body kept old
+abbrev pub final_ended : (came body kept piece new : List ℕ) (old : Option ℕ) (n status : ℕ) (e : Extent) → AtHead came body kept old
     → EndsHead kept piece new n status e → is_interim status ≡ false → HasFinal (came ++ take n piece) (Some status) e []
 final_ended came body kept piece new old n status e at ends interim =
     let heads = heads_as _ (kept ++ take n piece) (print_response ends.tree) ends.text (heads_more came kept (take n piece) at.heads) in
@@ -88,15 +89,22 @@ final_ended came body kept piece new old n status e at ends interim =
 no_chunks : ChunksThen [] [] []
 no_chunks = record { chunks = []; are_chunks = tt; bytes_are = refl; body_is = refl }
 
-behind_by : (e : Extent) (came : List ℕ) (status : Option ℕ) (at : ℕ) → ¬ (e ≡ extent.Unclear) → HasFinal came status e []
+-- the head says how far the body goes
+abbrev pub is_clear : Extent → Bool
+is_clear extent.Chunked = true
+is_clear (extent.Counted size) = true
+is_clear extent.UntilClose = true
+is_clear extent.Unclear = false
+
+behind_by : (e : Extent) (came : List ℕ) (status : Option ℕ) (at : ℕ) → is_clear e ≡ true → HasFinal came status e []
     → StandsAt came [] [] status (behind_head e at)
 behind_by extent.Chunked came status at clear f =
     record { bytes = []; final = f; chunks = no_chunks; none = no_line; short = omega arith }
 behind_by (extent.Counted size) came status at clear f = record { size = size; final = f; size_is = omega arith; empty = refl }
 behind_by extent.UntilClose came status at clear f = record { final = f; empty = refl }
-behind_by extent.Unclear came status at clear f = absurd (clear refl)
+behind_by extent.Unclear came status at clear f = absurd (true≢false (sym clear))
 
-pub behind_final : (came body new : List ℕ) (status : Option ℕ) (e : Extent) (at : ℕ) → body ≡ [] → new ≡ [] → ¬ (e ≡ extent.Unclear)
+pub behind_final : (came body new : List ℕ) (status : Option ℕ) (e : Extent) (at : ℕ) → body ≡ [] → new ≡ [] → is_clear e ≡ true
     → HasFinal came status e [] → StandsAt came body new status (behind_head e at)
 behind_final came body new status e at nothing emptied clear f = rw (nothing, emptied) (behind_by e came status at clear f)
 
@@ -122,18 +130,20 @@ line_begins came body bytes status tree size is size_is f chunks some = record {
   empty = refl;
 }
 
-behind_size : (came body bytes : List ℕ) (status : Option ℕ) (tree : ChunkLine) (size : ℕ) → IsLine tree → size ≡ chunk_size tree
-    → HasFinal came status extent.Chunked bytes → ChunksThen bytes body (print_chunk_line tree)
-    → StandsAt came body [] status (behind_line size)
-behind_size came body bytes status tree zero is size_is f chunks =
-    record { bytes = bytes; final = f; whole = record { last = tree; is_line = is; size = sym size_is; chunks = chunks }; empty = refl }
-behind_size came body bytes status tree (suc k) is size_is f chunks =
-    line_begins came body bytes status tree (suc k) is size_is f chunks (omega arith)
+behind_size_by : (came body bytes : List ℕ) (status : Option ℕ) (tree : ChunkLine) (size : ℕ) (t : Bool) → (size == 0) ≡ t → IsLine tree
+    → size ≡ chunk_size tree → HasFinal came status extent.Chunked bytes → ChunksThen bytes body (print_chunk_line tree)
+    → StandsAt came body [] status (if t then place.Last else place.Data size)
+behind_size_by came body bytes status tree size true zero is size_is f chunks =
+    let none : size ≡ 0 = grind (arith, nat_tests) in
+    record { bytes = bytes; final = f; whole = record { last = tree; is_line = is; size = sym size_is ∙ none; chunks = chunks }; empty = refl }
+behind_size_by came body bytes status tree size false more is size_is f chunks =
+    let some : 0 < size = grind (arith, nat_tests) in
+    line_begins came body bytes status tree size is size_is f chunks some
 
 pub line_ended : (came body kept piece new : List ℕ) (status : Option ℕ) (n size : ℕ) → AtLine came body kept status
     → EndsLine kept piece new n size → StandsAt (came ++ take n piece) body new status (behind_line size)
 line_ended came body kept piece new status n size at ends =
-    rw ends.emptied (behind_size (came ++ take n piece) body (at.bytes ++ take n piece) status ends.tree size ends.is_line ends.size_is
+    rw ends.emptied (behind_size_by (came ++ take n piece) body (at.bytes ++ take n piece) status ends.tree size (size == 0) refl ends.is_line ends.size_is
     (final_more came at.bytes (take n piece) status extent.Chunked at.final)
     (chunks_as _ body (kept ++ take n piece) (print_chunk_line ends.tree) ends.text (chunks_more at.bytes body kept (take n piece) at.chunks)))
 
@@ -171,17 +181,20 @@ chunk_given bytes body x left n c size within = record {
   body_is = ap (λ l. l ++ x) c.body_is ∙ append_assoc c.earlier c.part x;
 }
 
-behind_left : (came body bytes kept : List ℕ) (status : Option ℕ) (left : ℕ) → HasFinal came status extent.Chunked bytes
-    → InChunk bytes body left [] → kept ≡ [] → StandsAt came body kept status (behind_data left)
-behind_left came body bytes kept status zero f c empty =
-    rw empty record { bytes = bytes; final = f; chunk = c; front = inl refl }
-behind_left came body bytes kept status (suc k) f c empty =
-    record { bytes = bytes; final = f; chunk = c; some = omega arith; empty = empty }
+behind_left_by : (came body bytes kept : List ℕ) (status : Option ℕ) (left : ℕ) (t : Bool) → (left == 0) ≡ t
+    → HasFinal came status extent.Chunked bytes → InChunk bytes body left [] → kept ≡ []
+    → StandsAt came body kept status (if t then place.Ending else place.Data left)
+behind_left_by came body bytes kept status left true zero f c empty =
+    let none : left ≡ 0 = grind (arith, nat_tests) in
+    rw empty record { bytes = bytes; final = f; chunk = subst (λ n. InChunk bytes body n []) none c; front = inl refl }
+behind_left_by came body bytes kept status left false more f c empty =
+    let some : 0 < left = grind (arith, nat_tests) in
+    record { bytes = bytes; final = f; chunk = c; some = some; empty = empty }
 
 pub data_given : (came body kept piece : List ℕ) (status : Option ℕ) (left n : ℕ) → AtData came body kept status left → n ≤ length piece
     → n ≤ left → StandsAt (came ++ take n piece) (body ++ take n piece) kept status (behind_data (left - n))
 data_given came body kept piece status left n at within most =
-    behind_left (came ++ take n piece) (body ++ take n piece) (at.bytes ++ take n piece) kept status (left - n)
+    behind_left_by (came ++ take n piece) (body ++ take n piece) (at.bytes ++ take n piece) kept status (left - n) ((left - n) == 0) refl
     (final_more came at.bytes (take n piece) status extent.Chunked at.final)
     (chunk_given at.bytes body (take n piece) left n at.chunk (omega (arith, length-take n piece, within)) most) at.empty
 

@@ -11,7 +11,7 @@ use Rattle.http_answers.specs.declared.place.Place.{Place}
 use Rattle.http_answers.specs.declared.place.Place.TheVariants as place
 use Rattle.http_answers.specs.declared.place.Cause.TheVariants as cause
 use Rattle.http_answers.specs.declared.place.Malformed.{Malformed}
-use Rattle.http_answers.proofs.Steps.{counted_more, data_given, ending_ended, ending_refused, extent_refused, final_ended, behind_final, interim_ended, line_ended, line_refused}
+use Rattle.http_answers.proofs.Steps.{counted_more, data_given, ending_ended, ending_refused, extent_refused, final_ended, is_clear, behind_final, interim_ended, line_ended, line_refused}
 
 pub gives_data : (kept piece : List ℕ) (taken left n : ℕ) (status : Option ℕ) (old new : Place) → old ≡ place.Data left
     → new ≡ behind_data (left - n) → n ≡ min left (length piece) → 0 < left → 0 < length piece
@@ -61,7 +61,7 @@ passes_interim kept piece now taken n code e status old is_old ends interim = rw
   };
 }
 
-passes_final : (kept piece now : List ℕ) (taken n code at : ℕ) (e : Extent) (status : Option ℕ) → ¬ (e ≡ extent.Unclear)
+passes_final : (kept piece now : List ℕ) (taken n code at : ℕ) (e : Extent) (status : Option ℕ) → is_clear e ≡ true
     → EndsHead kept piece now n code e → is_interim code ≡ false
     → Passes (record { kept = kept; taken = taken; status = status; place = place.Head }) piece n
     (record { kept = now; taken = taken + n; status = Some code; place = behind_head e at })
@@ -88,11 +88,11 @@ reads_by : (kept piece now : List ℕ) (taken n code at : ℕ) (e : Extent) (sta
     → Reads (record { kept = kept; taken = taken; status = status; place = place.Head }) piece (reached (behind_head e at) n)
     (record { kept = now; taken = taken + n; status = Some code; place = behind_head e at })
 reads_by kept piece now taken n code at extent.Chunked status ends final within is_at =
-    passes_final kept piece now taken n code at extent.Chunked status (λ e. elim e [ ]) ends final
+    passes_final kept piece now taken n code at extent.Chunked status refl ends final
 reads_by kept piece now taken n code at (extent.Counted size) status ends final within is_at =
-    passes_final kept piece now taken n code at (extent.Counted size) status (λ e. elim e [ ]) ends final
+    passes_final kept piece now taken n code at (extent.Counted size) status refl ends final
 reads_by kept piece now taken n code at extent.UntilClose status ends final within is_at =
-    passes_final kept piece now taken n code at extent.UntilClose status (λ e. elim e [ ]) ends final
+    passes_final kept piece now taken n code at extent.UntilClose status refl ends final
 reads_by kept piece now taken n code at extent.Unclear status ends final within is_at =
     refuses_final kept piece now taken n code at status ends final within is_at
 

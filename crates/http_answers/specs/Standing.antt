@@ -1,8 +1,9 @@
 -- One step of a head, of a chunk's line and of the end behind a chunk's data, over what was kept of it and a piece.
 use Rattle.std.specs.Prelude.{◌≡◌, ℕ, ◌<◌, ◌≤◌, List, [], ◌∷◌, ◌++◌, length, take}
 use Rattle.httparse.specs.Grammar.{ChunkLine, HasNoChunkLine, HasNoResponse, NeverHasChunkLine, NeverHasResponse, ResponseHead, chunk_size, print_chunk_line, print_response, status_code}
-use Rattle.httparse.specs.Spans.{IsChunkLineAt, IsResponseAt, IsResponseWithin}
+use Rattle.httparse.specs.Spans.{IsChunkLineAt, IsResponseAt}
 use Rattle.httparse.specs.declared.spans.HeaderSpan.{HeaderSpan}
+use Rattle.httparse.specs.declared.spans.ResponseSpans.{ResponseSpans}
 use Rattle.http_answers.specs.Chunked.{most_line, IsEndingFront, IsLine, IsNoEnding, IsNoLine}
 use Rattle.http_answers.specs.Extents.{extent_of}
 use Rattle.http_answers.specs.Heads.{most_head, IsHead, IsNoHead}
@@ -18,9 +19,15 @@ use Rattle.http_answers.specs.declared.framing.LineStep.TheVariants as line
 use Rattle.http_answers.specs.declared.framing.EndingStep.{EndingStep}
 use Rattle.http_answers.specs.declared.framing.EndingStep.TheVariants as ending
 
+-- the head in front, whose parts the spans cover, and how far a body behind it goes
+pub record HasHead (bytes : List ℕ) (spans : List HeaderSpan) (head : ResponseSpans) (extent : Extent) : Type 0 where
+  pub tree : ResponseHead
+  pub at : IsResponseAt bytes spans head tree
+  pub extent_is : extent ≡ extent_of tree
+
 -- what a look at the bytes found of a head
 abbrev pub LooksHead : List ℕ → List HeaderSpan → Look → Type 0
-LooksHead bytes spans (Found head) = IsResponseWithin bytes spans head × ((tree : ResponseHead) × IsResponseAt bytes spans head tree)
+LooksHead bytes spans (Found head extent) = HasHead bytes spans head extent
 LooksHead bytes spans More = HasNoResponse bytes
 LooksHead bytes spans Never = NeverHasResponse bytes
 

@@ -21,7 +21,8 @@ const HEAD_PIECE: usize = 1024;
 
 /// What stands at the front.
 pub(crate) enum Look {
-    Found(ResponseSpans),
+    /// A head, and how far a body behind it goes.
+    Found(ResponseSpans, Extent),
     /// No head yet.
     More,
     /// No bytes can follow that make one.
@@ -35,7 +36,10 @@ pub(crate) fn look_for_head(bytes: &[u8], spans: &mut [HeaderSpan]) -> Look
     ensures { LooksHead bytes.now spans.new result }
 {
     match parse_response(bytes, spans) {
-        Ok(Status::Complete(head)) => Look::Found(head),
+        Ok(Status::Complete(head)) => {
+            let extent = extent_at(bytes, spans, &head);
+            Look::Found(head, extent)
+        }
         Ok(Status::Partial) => Look::More,
         Err(Error::TooManyHeaders) => Look::Never,
         Err(_) => Look::Never,
@@ -67,8 +71,7 @@ pub(crate) fn head_step(kept: &mut Vec<u8>, spans: &mut Vec<HeaderSpan>, piece: 
         Look::More if kept.len() < HEAD_LIMIT => HeadStep::Begun(count),
         Look::More => HeadStep::Refused(count),
         Look::Never => HeadStep::Refused(count),
-        Look::Found(head) => {
-            let extent = extent_at(kept.as_slice(), spans.as_slice(), &head);
+        Look::Found(head, extent) => {
             kept.clear();
             HeadStep::Ended(head.len - before, head.code, extent)
         }

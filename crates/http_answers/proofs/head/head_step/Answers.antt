@@ -6,8 +6,8 @@ use Rattle.http_answers.proofs.head.head_step.Goals as goal
 pub overflow_sub-result : goal.overflow_sub-result
 overflow_sub-result c =
     let text = c.as_slice.ensures.value ∙ c.gather-count.ensures.bytes in
-    let at = c.in-Found.ensures.1.1 in
-    let longer = head_longer c.args.kept.now.items (take c.gather-count.result c.args.piece.now) _ c.in-Found.ensures.1.0 c.requires.none
+    let at = c.in-Found.ensures.at in
+    let longer = head_longer c.args.kept.now.items (take c.gather-count.result c.args.piece.now) _ c.in-Found.ensures.tree c.requires.none
     (rw text at at.reads) in
     omega (arith, longer, at.len, c.len-before.ensures)
 
@@ -18,8 +18,8 @@ returns-in-Found-clause-steps c =
     let piece = c.args.piece.now in
     let n = c.gather-count.result in
     let len = c.in-Found.head.len in
-    let tree = c.in-Found.ensures.1.0 in
-    let at = c.in-Found.ensures.1.1 in
+    let tree = c.in-Found.ensures.tree in
+    let at = c.in-Found.ensures.at in
     let reads = rw text at at.reads in
     let longer = head_longer kept (take n piece) _ tree c.requires.none reads in
     let within : len - c.len-before.result ≤ n =
@@ -41,5 +41,5 @@ returns-in-Found-clause-steps c =
       text = cut_text kept piece (print_response tree) _ n (len - c.len-before.result) reads.1
           (omega (arith, longer, at.len, c.len-before.ensures)) within;
       status_is = at.code;
-      extent_is = ?;
+      extent_is = c.in-Found.ensures.extent_is;
     }
