@@ -133,7 +133,7 @@ line_begins came body bytes status tree size is size_is f chunks some = record {
 behind_size_by : (came body bytes : List ℕ) (status : Option ℕ) (tree : ChunkLine) (size : ℕ) (t : Bool) → (size == 0) ≡ t → IsLine tree
     → size ≡ chunk_size tree → HasFinal came status extent.Chunked bytes → ChunksThen bytes body (print_chunk_line tree)
     → StandsAt came body [] status (if t then place.Last else place.Data size)
-behind_size_by came body bytes status tree size true zero is size_is f chunks =
+behind_size_by came body bytes status tree size true is_zero is size_is f chunks =
     let none : size ≡ 0 = grind (arith, nat_tests) in
     record { bytes = bytes; final = f; whole = record { last = tree; is_line = is; size = sym size_is ∙ none; chunks = chunks }; empty = refl }
 behind_size_by came body bytes status tree size false more is size_is f chunks =
@@ -184,7 +184,7 @@ chunk_given bytes body x left n c size within = record {
 behind_left_by : (came body bytes kept : List ℕ) (status : Option ℕ) (left : ℕ) (t : Bool) → (left == 0) ≡ t
     → HasFinal came status extent.Chunked bytes → InChunk bytes body left [] → kept ≡ []
     → StandsAt came body kept status (if t then place.Ending else place.Data left)
-behind_left_by came body bytes kept status left true zero f c empty =
+behind_left_by came body bytes kept status left true is_zero f c empty =
     let none : left ≡ 0 = grind (arith, nat_tests) in
     rw empty record { bytes = bytes; final = f; chunk = subst (λ n. InChunk bytes body n []) none c; front = inl refl }
 behind_left_by came body bytes kept status left false more f c empty =
