@@ -1,10 +1,10 @@
 -- A head or a line that was begun, and where it ends.
-use Rattle.std.proofs.Common.{◌≡◌, ℕ, ◌+◌, ◌-◌, ◌<◌, ◌≤◌, List, [], ◌∷◌, ◌++◌, length, take, drop, refl, sym, ap, ◌∙◌, subst, arith, length-append, length-take}
+use Rattle.std.proofs.Common.{◌≡◌, ℕ, ◌+◌, ◌<◌, ◌≤◌, List, [], ◌++◌, length, take, drop, refl, sym, ap, ◌∙◌, arith, length-append}
 use Rattle.std.proofs.Math.Nat.{lt_of_not-le}
 use Rattle.std.proofs.Math.Seq.{take-append_seam, take-append-add}
 use Rattle.std.proofs.lemmas.List.{take-append-le, take-append-drop, take-take}
 use Rattle.httparse.specs.Ascii.{crlf_bytes}
-use Rattle.httparse.specs.Grammar.{ChunkLine, HasNoChunkLine, HasNoResponse, ReadsChunkLine, ReadsResponse, ResponseHead, crlf, print_chunk_line, print_end, print_extension, print_response}
+use Rattle.httparse.specs.Grammar.{ChunkLine, HasNoChunkLine, HasNoResponse, ReadsChunkLine, ReadsResponse, ResponseHead, print_chunk_line, print_response}
 use Rattle.http_answers.proofs.Room.{length-head}
 
 -- a text in front of bytes that is no longer than their front stands in that front

@@ -1,17 +1,15 @@
 -- What a step of a head, a line, an ending or a chunk makes of a reply that came so far.
-use Rattle.std.proofs.Common.{◌≡◌, ℕ, zero, suc, ◌+◌, ◌-◌, ◌<◌, ◌≤◌, ◌⊎◌, inl, inr, Bool, true, false, true≢false, ◌==◌, if◌then◌else◌, List, [], ◌∷◌, ◌++◌, length, take, min, Option, None, Some, refl, sym, ap, ◌∙◌, subst, arith, append_assoc, append-nil, length-append, length-take}
+use Rattle.std.proofs.Common.{◌≡◌, ℕ, ◌+◌, ◌-◌, ◌<◌, ◌≤◌, inl, Bool, true, false, true≢false, ◌==◌, if◌then◌else◌, List, [], ◌∷◌, ◌++◌, length, take, Option, Some, refl, sym, ap, ◌∙◌, subst, arith, append_assoc, append-nil, length-append, length-take}
 use Rattle.std.proofs.lemmas.Bool.Decides.{nat_tests}
 use Rattle.httparse.specs.Ascii.{crlf_bytes}
-use Rattle.httparse.specs.Grammar.{ChunkLine, ResponseHead, chunk_size, print_chunk_line, print_response, status_code}
-use Rattle.http_answers.specs.Chunked.{Chunk, ChunksThen, InChunk, IsChunkedBody, IsEndingFront, IsLine, IsNoEnding, IsNoLine, coded, contents_of, print_chunk}
-use Rattle.http_answers.specs.Extents.{extent_of}
-use Rattle.http_answers.specs.Heads.{printed, IsHead, IsNoHead, is_interim}
+use Rattle.httparse.specs.Grammar.{ChunkLine, chunk_size, print_chunk_line, print_response, status_code}
+use Rattle.http_answers.specs.Chunked.{ChunksThen, InChunk, IsLine, IsNoEnding, IsNoLine, coded}
+use Rattle.http_answers.specs.Heads.{printed, is_interim}
 use Rattle.http_answers.specs.Standing.{EndsEnding, EndsHead, EndsLine, Took}
-use Rattle.http_answers.specs.Replies.{HasFinal, HeadsThen, Stands, StandsAt, AtHead, AtLine, AtData, AtEnding, BadEnding, BadExtent, BadLine, ShowsFault}
+use Rattle.http_answers.specs.Replies.{HasFinal, HeadsThen, StandsAt, AtHead, AtLine, AtData, AtEnding, ShowsFault}
 use Rattle.http_answers.specs.Inside.{behind_data, behind_head, behind_line}
 use Rattle.http_answers.specs.declared.extent.Extent.{Extent}
 use Rattle.http_answers.specs.declared.extent.Extent.TheVariants as extent
-use Rattle.http_answers.specs.declared.place.Place.{Place}
 use Rattle.http_answers.specs.declared.place.Place.TheVariants as place
 use Rattle.http_answers.specs.declared.place.Cause.TheVariants as cause
 use Rattle.http_answers.specs.declared.place.Malformed.{Malformed}

@@ -1,9 +1,9 @@
 -- The steps of a reader.
-use Rattle.std.proofs.Common.{◌≡◌, ℕ, ◌+◌, ◌-◌, ◌<◌, ◌≤◌, Bool, true, false, List, [], ◌∷◌, ◌++◌, length, take, min, Option, None, Some, Ok, Err, refl, sym, ap, ◌∙◌, subst, arith}
+use Rattle.std.proofs.Common.{◌≡◌, ℕ, ◌+◌, ◌-◌, ◌<◌, ◌≤◌, true, false, List, ◌++◌, length, take, min, Option, Some, refl, arith}
 use Rattle.http_answers.specs.Chunked.{IsNoEnding, IsNoLine}
 use Rattle.http_answers.specs.Heads.{is_interim}
 use Rattle.http_answers.specs.Standing.{EndsEnding, EndsHead, EndsLine, Took}
-use Rattle.http_answers.specs.Replies.{Gives, Passes, Reads, Refuses, Stands, StandsAt}
+use Rattle.http_answers.specs.Replies.{Gives, Passes, Reads, Refuses}
 use Rattle.http_answers.specs.Inside.{behind_data, behind_head, behind_line, reached}
 use Rattle.http_answers.specs.declared.extent.Extent.{Extent}
 use Rattle.http_answers.specs.declared.extent.Extent.TheVariants as extent

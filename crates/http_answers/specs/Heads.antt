@@ -1,6 +1,6 @@
 -- The heads of a reply (RFC 9112, sections 2.1 and 4; RFC 9110, sections 15.1 and 15.2): any number of interim ones, and then the
 -- final one.
-use Rattle.std.specs.Prelude.{◌≡◌, ℕ, ◌≤◌, ◌⊎◌, Bool, true, false, ◌&&◌, nat_le, nat_lt, List, [], ◌∷◌, ◌++◌, length, ⊤}
+use Rattle.std.specs.Prelude.{◌≡◌, ℕ, ◌≤◌, ◌⊎◌, Bool, true, ◌&&◌, nat_le, nat_lt, List, [], ◌∷◌, ◌++◌, length, ⊤}
 use Rattle.httparse.specs.Grammar.{HasNoResponse, NeverHasResponse, IsResponseHead, ResponseHead, print_response, status_code}
 
 -- the longest head in bytes, with the empty lines before it

@@ -1,5 +1,5 @@
 -- A reply on a connection (RFC 9112, sections 2.1, 6.3 and 7.1): interim heads, a final one and a body; and how far it came.
-use Rattle.std.specs.Prelude.{◌≡◌, ℕ, ◌+◌, ◌<◌, ◌≤◌, ◌^◌, false, List, [], ◌++◌, length, take, Option, None, Some, Result, Ok, Err}
+use Rattle.std.specs.Prelude.{◌≡◌, ℕ, ◌+◌, ◌<◌, ◌≤◌, false, List, [], ◌++◌, length, take, Option, None, Some, Result, Ok, Err}
 use Rattle.httparse.specs.Grammar.{HasNoChunkLine, HasNoResponse, ResponseHead, print_response, status_code}
 use Rattle.http_answers.specs.Chunked.{most_line, ChunksThen, InChunk, IsChunkedBody, IsEndingFront, IsNoEnding, IsNoLine}
 use Rattle.http_answers.specs.Extents.{extent_of}

@@ -5,10 +5,12 @@ mod extent;
 mod fields;
 mod framing;
 mod head;
+mod laws;
 mod number;
 mod place;
 mod reader;
 
 pub use extent::Extent;
+pub use laws::reading_begins;
 pub use place::{Cause, Malformed, Place, Step};
 pub use reader::ReplyReader;

@@ -1,5 +1,5 @@
-use Rattle.std.proofs.Common.{◌≡◌, ◌≤◌, ◌<◌, ◌++◌, ◌+◌, ◌-◌, length, take, drop, sym, ap, ◌∙◌, arith, subst, length-append, length-take}
-use Rattle.httparse.specs.Grammar.{ReadsChunkLine, print_chunk_line}
+use Rattle.std.proofs.Common.{◌≤◌, ◌++◌, ◌-◌, length, take, drop, ap, ◌∙◌, arith, length-append, length-take}
+use Rattle.httparse.specs.Grammar.{print_chunk_line}
 use Rattle.http_answers.proofs.Begun.{cut_text, line_longer}
 use Rattle.http_answers.proofs.framing.line_step.Goals as goal
 

@@ -1,5 +1,5 @@
-use Rattle.std.proofs.Common.{◌≡◌, ◌≤◌, ◌<◌, ◌++◌, ◌+◌, ◌-◌, length, take, drop, sym, ap, ◌∙◌, arith, subst, length-append, length-take}
-use Rattle.httparse.specs.Grammar.{ReadsResponse, print_response}
+use Rattle.std.proofs.Common.{◌≤◌, ◌++◌, ◌-◌, length, take, drop, ap, ◌∙◌, arith, length-append, length-take}
+use Rattle.httparse.specs.Grammar.{print_response}
 use Rattle.http_answers.proofs.Begun.{cut_text, head_longer}
 use Rattle.http_answers.proofs.head.head_step.Goals as goal
 

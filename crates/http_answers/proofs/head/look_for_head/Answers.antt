@@ -1,4 +1,4 @@
-use Rattle.std.proofs.Common.{ap, ◌∙◌, Err, sym}
+use Rattle.std.proofs.Common.{ap, ◌∙◌, Err}
 use Rattle.http_answers.proofs.Room.{no-excess}
 use Rattle.http_answers.proofs.head.look_for_head.Goals as goal
 

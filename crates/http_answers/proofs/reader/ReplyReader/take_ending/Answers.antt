@@ -1,4 +1,4 @@
-use Rattle.std.proofs.Common.{arith, ◌≡◌, ◌+◌, ◌-◌, length, ap, ◌∙◌}
+use Rattle.std.proofs.Common.{arith, ◌+◌, length, ap}
 use Rattle.http_answers.proofs.Begun.{no_line}
 use Rattle.http_answers.proofs.Turns.{passes_ending, refuses_ending}
 use Rattle.http_answers.proofs.reader.ReplyReader.take_ending.Goals as goal

@@ -1,4 +1,4 @@
-use Rattle.std.proofs.Common.{◌≡◌, ℕ, ◌-◌, List, [], length, arith, ap, refl, sym}
+use Rattle.std.proofs.Common.{◌≡◌, ℕ, [], length, arith, ap, refl, sym}
 use Rattle.http_answers.specs.Inside.{IsBegun, behind_head}
 use Rattle.http_answers.specs.declared.extent.Extent.{Extent}
 use Rattle.http_answers.specs.declared.extent.Extent.TheVariants as extent

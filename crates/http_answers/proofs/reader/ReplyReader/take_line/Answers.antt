@@ -1,5 +1,4 @@
-use Rattle.std.proofs.Common.{arith, ◌≡◌, ◌+◌, ◌-◌, length, ◌∙◌}
-use Rattle.http_answers.specs.declared.place.Place.TheVariants as place
+use Rattle.std.proofs.Common.{arith, ◌+◌}
 use Rattle.http_answers.proofs.Turns.{passes_line, refuses_line}
 use Rattle.http_answers.proofs.reader.ReplyReader.take_line.Goals as goal
 
