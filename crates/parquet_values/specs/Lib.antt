@@ -1,0 +1,4 @@
+pub mod Storages
+pub mod Plain
+pub mod Cells
+pub mod Cursors
