@@ -1,0 +1,3 @@
+mod Texts
+mod Sizes
+mod Turns

@@ -1,9 +1,9 @@
 -- The value that the bytes of a column's value make (Apache Parquet format, "Types" and "Logical Types").
-use Rattle.std.specs.Prelude.{◌≡◌, ⊥, ℕ, ◌+◌, ◌-◌, ◌*◌, ◌%◌, ◌^◌, nat_lt, nat_le, Bool, true, false, ℤ, pos, negsuc, ◌+ℤ◌, ◌-ℤ◌, ◌*ℤ◌, List, [], ◌∷◌, length, take, drop, if◌then◌else◌, Option, None, Some}
+use Rattle.std.specs.Prelude.{◌≡◌, ℕ, ◌+◌, ◌-◌, ◌*◌, ◌%◌, ◌^◌, nat_lt, nat_le, Bool, true, false, ℤ, pos, negsuc, ◌+ℤ◌, ◌-ℤ◌, ◌*ℤ◌, List, [], ◌∷◌, length, take, drop, if◌then◌else◌, Option, None, Some}
 use Rattle.std.specs.Int.{cast_signed, w32, w64}
 use Rattle.std.specs.Str.{chars, is_utf8}
 use Rattle.packed_bits.specs.Packed.{little}
-use Rattle.sql_decimal.specs.Decimal.{decimal_of, is_within}
+use Rattle.sql_decimal.specs.Decimal.{decimal_of, is_decimal}
 use Rattle.sql_timestamp.specs.Instants.{Timestamp, made, day_nanos}
 use Rattle.sql_timestamp.specs.declared.fault.ValueFault.TheVariants.{NumberOverflow, TimestampOutOfRange, InvalidTextEncoding}
 use Rattle.sql_value.specs.declared.value.Value.{Value}
@@ -76,9 +76,9 @@ signed_big true bytes = negsuc (big true 0 bytes)
 abbrev pub twos_complement : List ℕ → ℤ
 twos_complement bytes = signed_big (is_negative bytes) bytes
 
--- an unscaled value of at most 38 digits at a scale
+-- an unscaled value of at most 38 digits, at a scale of at most 38
 abbrev pub decimal_value : ℤ → ℕ → Value
-decimal_value unscaled scale = if is_within 38 unscaled then Dec (decimal_of unscaled scale) else Bad NumberOverflow
+decimal_value unscaled scale = if is_decimal unscaled scale then Dec (decimal_of unscaled scale) else Bad NumberOverflow
 
 -- the value of a word, for the columns whose values are words
 abbrev pub word_decimal : Form → ℕ → ℕ → Value

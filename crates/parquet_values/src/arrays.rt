@@ -1,6 +1,6 @@
 //! Reading of byte arrays whose bytes are held elsewhere.
-ghost use Rattle.std.specs.Prelude.{◌≡◌, ◌<◌, ◌≤◌, ◌^◌, None, Some, [], ◌∷◌, length, take, drop, MatchOption, IfSome, true};
-ghost use Rattle.parquet_values.specs.Plain.{array_at, cut_at, arrays_at, are_arrays};
+ghost use Rattle.std.specs.Prelude.{◌≡◌, ◌+◌, ◌<◌, ◌≤◌, ◌^◌, None, Some, [], ◌∷◌, length, take, drop, MatchOption, IfSome, true};
+ghost use Rattle.parquet_values.specs.Plain.{array_at, cut_at, arrays, arrays_at, are_arrays};
 ghost use Rattle.parquet_values.specs.Cursors.{arrays_left, IsReady};
 ghost use Rattle.parquet_values.specs.Cells.{IsArrayOf};
 
@@ -59,11 +59,11 @@ impl ArrayCursor {
             return None;
         }
         let (_, rest) = bytes.split_at(self.at);
-        let Some((array, behind)) = array_at(rest, self.storage) else {
+        let Some((array, taken)) = array_at(rest, self.storage) else {
             unreachable!()
         };
         self.left -= 1;
-        self.at = bytes.len() - behind.len();
+        self.at += taken;
         Some(array)
     }
 }
@@ -75,42 +75,51 @@ fn are_arrays(bytes: &[u8], storage: Storage, count: u64) -> bool
     let mut rest = bytes;
     let mut left = count;
     while left > 0 {
-        let Some((_, behind)) = array_at(rest, storage) else {
+        let Some((_, taken)) = array_at(rest, storage) else {
             return false;
         };
-        rest = behind;
+        rest = rest.split_at(taken).1;
         left -= 1;
     }
     true
 }
 
-/// The array at the front, and the bytes behind it.
-fn array_at(bytes: &[u8], storage: Storage) -> Option<(&[u8], &[u8])>
-    ensures exact { MatchOption result (array_at storage bytes.now ≡ None) (λ x. array_at storage bytes.now ≡ Some (x.0.now, x.1.now)) }
+/// The array at the front, and how many bytes are passed with it.
+fn array_at(bytes: &[u8], storage: Storage) -> Option<(&[u8], usize)>
+    ensures exact { MatchOption result (array_at storage bytes.now ≡ None) (λ x. array_at storage bytes.now ≡ Some (x.0.now, x.1)) }
+    ensures within { IfSome result (λ x. x.1 ≤ length bytes.now) }
     ensures stored { IfSome result (λ x. IsArrayOf storage x.0.now) }
 {
     match storage {
-        Storage::Fixed(size) => cut_at(bytes, size),
+        Storage::Fixed(size) => cut_at(bytes, 0, size),
         Storage::Counted => counted_at(bytes),
         Storage::Bit => None,
         Storage::Unknown => None,
     }
 }
 
-fn counted_at(bytes: &[u8]) -> Option<(&[u8], &[u8])>
-    ensures exact { MatchOption result (array_at Storage.Counted bytes.now ≡ None)
-        (λ x. array_at Storage.Counted bytes.now ≡ Some (x.0.now, x.1.now)) }
+fn counted_at(bytes: &[u8]) -> Option<(&[u8], usize)>
+    ensures exact { MatchOption result (array_at Storage.Counted bytes.now ≡ None) (λ x. array_at Storage.Counted bytes.now ≡ Some (x.0.now, x.1)) }
+    ensures within { IfSome result (λ x. x.1 ≤ length bytes.now) }
 {
-    let Some((size, rest)) = cut_at(bytes, 4) else {
+    if bytes.len() < 4 {
         return None;
-    };
-    cut_at(rest, word32(size))
+    }
+    let (size, _) = bytes.split_at(4);
+    cut_at(bytes, 4, word32(size))
 }
 
-/// So many bytes, and those behind them.
-fn cut_at(bytes: &[u8], size: u32) -> Option<(&[u8], &[u8])>
-    ensures exact { MatchOption result (cut_at size bytes.now ≡ None) (λ x. cut_at size bytes.now ≡ Some (x.0.now, x.1.now)) }
+/// So many bytes behind so many others, and how many these are together.
+fn cut_at(bytes: &[u8], before: usize, size: u32) -> Option<(&[u8], usize)>
+    requires { before ≤ length bytes.now }
+    ensures exact { MatchOption result (cut_at before size bytes.now ≡ None) (λ x. cut_at before size bytes.now ≡ Some (x.0.now, x.1)) }
+    ensures within { IfSome result (λ x. x.1 ≤ length bytes.now) }
     ensures size { IfSome result (λ x. length x.0.now ≡ size) }
 {
-    bytes.split_at_checked(size as usize)
+    let (_, rest) = bytes.split_at(before);
+    if size as usize > rest.len() {
+        return None;
+    }
+    let (array, _) = rest.split_at(size as usize);
+    Some((array, before + size as usize))
 }

@@ -1,5 +1,6 @@
 //! The values that columns give.
-ghost use Rattle.std.specs.Prelude.{◌≡◌, length};
+ghost use Rattle.std.specs.Prelude.{◌≡◌, length, true, false, MatchOption};
+ghost use Rattle.std.specs.Str.{is_utf8};
 ghost use Rattle.parquet_values.specs.Storages.{storage_of, storage_of_decimal};
 ghost use Rattle.parquet_values.specs.Cells.{word_value, word_decimal, array_value, array_decimal, text_value, IsArrayOf};
 
@@ -82,8 +83,18 @@ fn array_decimal<'r>(form: Form, bytes: &[u8], scale: u8) -> Value<'r>
 fn text_value<'r>(bytes: &'r [u8]) -> Value<'r>
     ensures { result ≡ text_value bytes.now }
 {
+    match text_of(bytes) {
+        Some(text) => Value::Text(ValueText::lent(Text::plain(text))),
+        None => Value::Bad(ValueFault::InvalidTextEncoding),
+    }
+}
+
+/// The bytes as a text, where they are UTF-8.
+fn text_of(bytes: &[u8]) -> Option<&str>
+    ensures { MatchOption result (is_utf8 bytes.now ≡ false) (λ text. (text.now ≡ bytes.now) × (is_utf8 bytes.now ≡ true)) }
+{
     match simdutf8::compat::from_utf8(bytes) {
-        Ok(text) => Value::Text(ValueText::lent(Text::plain(text))),
-        Err(_) => Value::Bad(ValueFault::InvalidTextEncoding),
+        Ok(text) => Some(text),
+        Err(_) => None,
     }
 }

@@ -1,6 +1,6 @@
 //! Numbers of columns.
 ghost use Rattle.std.specs.Prelude.{◌≡◌, ◌<◌, ◌≤◌, ◌^◌, false, true, pos, negsuc, MatchOption, length};
-ghost use Rattle.sql_decimal.specs.Decimal.{is_within};
+ghost use Rattle.sql_decimal.specs.Decimal.{is_within, is_decimal};
 ghost use Rattle.parquet_values.specs.Cells.{natural_value, decimal_value, digit_of, big, is_negative, twos_complement, signed_big};
 
 use sql_decimal::Dec;
@@ -21,7 +21,6 @@ pub(crate) fn natural_value<'r>(number: u64) -> Value<'r>
 
 /// An unscaled value at a scale.
 pub(crate) fn decimal_value<'r>(unscaled: i128, scale: u8) -> Value<'r>
-    requires { scale ≤ 38 }
     ensures { result ≡ decimal_value unscaled scale }
 {
     match Dec::make(unscaled, scale) {
@@ -32,7 +31,6 @@ pub(crate) fn decimal_value<'r>(unscaled: i128, scale: u8) -> Value<'r>
 
 /// An unscaled value in big-endian two's complement at a scale. It takes time by the bytes.
 pub(crate) fn big_decimal_value<'r>(bytes: &[u8], scale: u8) -> Value<'r>
-    requires { scale ≤ 38 }
     ensures { result ≡ decimal_value (twos_complement bytes.now) scale }
 {
     match signed_big(is_negative(bytes), bytes) {
@@ -58,7 +56,10 @@ fn signed_big(negative: bool, bytes: &[u8]) -> Option<i128>
         return None;
     };
     let number = size as i128;
-    Some(if negative { -number - 1 } else { number })
+    if negative {
+        return Some(-number - 1);
+    }
+    Some(number)
 }
 
 /// The number of big-endian bytes, each of them inverted or not, or none where it has more than 38 digits.

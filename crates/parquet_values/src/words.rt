@@ -7,7 +7,7 @@ ghost use Rattle.parquet_values.specs.Cells.{signed_word, unsigned_word};
 use parquet_metadata::Width;
 
 /// The number of 4 bytes.
-#[tactic(auto, unfolding(Rattle::packed_bits::specs::Packed::little))]
+#[tactic(auto, unfolding(packed_bits::specs::Packed::little))]
 pub(crate) fn word32(bytes: &[u8]) -> u32
     requires { length bytes.now ≡ 4 }
     ensures { result ≡ little bytes.now }
@@ -19,12 +19,15 @@ pub(crate) fn word32(bytes: &[u8]) -> u32
 }
 
 /// The number of 8 bytes.
+#[tactic(auto, unfolding(packed_bits::specs::Packed::little))]
 pub(crate) fn word64(bytes: &[u8]) -> u64
     requires { length bytes.now ≡ 8 }
     ensures { result ≡ little bytes.now }
 {
-    let (low, high) = bytes.split_at(4);
-    u64::from(word32(low)) + 0x1_0000_0000 * u64::from(word32(high))
+    match bytes {
+        [a, b, c, d, e, f, g, h] => u64::from_le_bytes([*a, *b, *c, *d, *e, *f, *g, *h]),
+        _ => unreachable!(),
+    }
 }
 
 /// The number of a word's bytes.
