@@ -28,3 +28,5 @@ pub use crate::laws::{file_has_a_tree, trees_are_one};
 pub use crate::logical::{LogicalType, TimeUnit};
 pub use crate::metadata::{ColumnOrder, FileMetaData, read_metadata};
 pub use crate::statistics::Statistics;
+pub use crate::structs::{Slots, read_struct, take_fields};
+pub use crate::values::{pass, read_number};

@@ -13,7 +13,7 @@ use std::alloc::Global;
 use thrift_compact::{Kind, Reader};
 
 /// What has been read of a struct's fields.
-pub(crate) trait Slots {
+pub trait Slots {
     /// The slots behind a field of this number and kind with this value.
     ghost put: { Self → ℤ → Kind → Datum → Read Self };
 
@@ -34,7 +34,7 @@ pub(crate) trait Slots {
 
 /// Reads the fields that are left of the innermost struct, up to the byte 0 that ends it, whose place is the
 /// answer.
-pub(crate) fn take_fields<S: Slots>(
+pub fn take_fields<S: Slots>(
     slots: &mut S,
     alloc: Global,
     reader: &mut Reader<'_>,
@@ -62,7 +62,7 @@ pub(crate) fn take_fields<S: Slots>(
 }
 
 /// Reads a struct, from its front on, into slots, and tells the place of the byte 0 that ends it.
-pub(crate) fn read_struct<S: Slots + Drop>(
+pub fn read_struct<S: Slots + Drop>(
     slots: S,
     alloc: Global,
     reader: &mut Reader<'_>,

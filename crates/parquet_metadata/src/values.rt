@@ -13,7 +13,7 @@ use std::alloc::Global;
 use thrift_compact::{Kind, Reader};
 
 /// Reads a number of a kind of numbers.
-pub(crate) fn read_number(reader: &mut Reader<'_>, kind: Kind) -> Result<i64, ReadFault>
+pub fn read_number(reader: &mut Reader<'_>, kind: Kind) -> Result<i64, ReadFault>
     requires { is_number kind ≡ true }
     ensures seen { (d : Datum) (answer : Result ℕ ThriftFault) → AtDatum kind reader.old d answer
         → Gives (at_place (number_in d)) result × EndsAt result answer reader.new }
@@ -46,7 +46,7 @@ pub(crate) fn read_bytes(alloc: Global, reader: &mut Reader<'_>) -> Result<Items
 }
 
 /// Passes over a value of any kind.
-pub(crate) fn pass(reader: &mut Reader<'_>, kind: Kind) -> Result<(), ReadFault>
+pub fn pass(reader: &mut Reader<'_>, kind: Kind) -> Result<(), ReadFault>
     ensures seen { (d : Datum) (answer : Result ℕ ThriftFault) → AtDatum kind reader.old d answer
         → Gives (at_place (skip_in d)) result × EndsAt result answer reader.new }
     ensures passed { OnOk result (Passed reader.old reader.new) }

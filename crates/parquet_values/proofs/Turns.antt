@@ -1,5 +1,5 @@
 -- One array more.
-use Rattle.std.proofs.Common.{◌≡◌, ℕ, Bool, true, false, zero, suc, ◌+◌, ◌-◌, ◌<◌, ◌≤◌, List, [], ◌∷◌, length, drop, None, Some, refl, sym, ap, ◌∙◌, arith}
+use Rattle.std.proofs.Common.{◌≡◌, ℕ, true, false, true≢false, zero, suc, ◌+◌, ◌-◌, ◌<◌, ◌≤◌, List, [], ◌∷◌, length, drop, None, Some, refl, sym, ap, ◌∙◌, arith}
 use Rattle.std.proofs.lemmas.List.{drop-drop, length-drop}
 use Rattle.parquet_values.specs.Plain.{array_at, first_and, there_and, arrays, are_arrays}
 use Rattle.parquet_values.specs.Cursors.{arrays_left, IsReady}
@@ -40,15 +40,11 @@ unfolding arrays_left arrays
 emptied c bytes none = ap (λ n. arrays c.storage n (drop c.at bytes)) none
 
 -- the array that is due is there
-not_both : (t : Bool) → t ≡ true → t ≡ false → ⊥
-not_both true is isnt = nothing isnt
-not_both false is isnt = nothing is
-
 pub no_array : (c : ArrayCursor) (bytes rest : List ℕ) → IsReady c bytes → rest ≡ drop c.at bytes → array_at c.storage rest ≡ None
     → 0 < c.left → ⊥
 no_array c bytes rest ready back is any =
     let there : are_arrays c.storage c.left rest ≡ true = ap (are_arrays c.storage c.left) back ∙ ready.there in
-    not_both (are_arrays c.storage c.left rest) there (none_there c.storage c.left rest is any)
+    true≢false (sym there ∙ none_there c.storage c.left rest is any)
 
 -- the cursor behind it
 abbrev pub behind : ArrayCursor → ℕ → ArrayCursor
