@@ -1,5 +1,6 @@
 mod Digits
 mod Examples
+mod FirstPlaces
 mod LawfulBounds
 mod LawfulPlans
 mod PlanSteps

@@ -9,6 +9,7 @@ ghost use Rattle.scan_plan.specs.Plans.{Binds, IsLawfulPlan};
 use crate::bounds::{Binding, bind_expr};
 use crate::columns::Columns;
 use crate::finds::{Finds, of_query};
+use crate::lookups::Lookup;
 use crate::names::selection_names;
 use crate::plans::{BindError, BindFault, Plan, PlanItems};
 use crate::used::{first_fault, used_columns};
@@ -37,7 +38,7 @@ fn has_wrong_source(columns: &Columns, source: &[Step]) -> bool
     }
 }
 
-fn bind_agg(alloc: Global, at: &Binding<'_>, agg: &Agg) -> Result<BoundAgg, AllocError>
+fn bind_agg(alloc: Global, at: &Binding<'_, '_>, agg: &Agg) -> Result<BoundAgg, AllocError>
     requires { is_lawful_agg agg.now ≡ true }
     ensures { IfOk result (λ bound. bound ≡ bound_agg at.now.columns.now at.now.alias.now at.now.used.now agg.now) }
 {
@@ -51,7 +52,11 @@ fn bind_agg(alloc: Global, at: &Binding<'_>, agg: &Agg) -> Result<BoundAgg, Allo
     }
 }
 
-fn bind_items(alloc: Global, at: &Binding<'_>, items: &[Item]) -> Result<Items<Bound>, AllocError>
+fn bind_items(
+    alloc: Global,
+    at: &Binding<'_, '_>,
+    items: &[Item],
+) -> Result<Items<Bound>, AllocError>
     requires { list_all is_lawful_item items.now ≡ true }
     ensures { IfOk result (λ bounds. bounds ≡ map (bound_item at.now.columns.now at.now.alias.now at.now.used.now) items.now) }
 {
@@ -65,7 +70,7 @@ fn bind_items(alloc: Global, at: &Binding<'_>, items: &[Item]) -> Result<Items<B
 
 fn bind_totals(
     alloc: Global,
-    at: &Binding<'_>,
+    at: &Binding<'_, '_>,
     totals: &[Total],
 ) -> Result<Items<BoundAgg>, AllocError>
     requires { list_all is_lawful_total totals.now ≡ true }
@@ -81,7 +86,7 @@ fn bind_totals(
 
 fn bind_selection(
     alloc: Global,
-    at: &Binding<'_>,
+    at: &Binding<'_, '_>,
     selection: &Selection,
 ) -> Result<PlanItems, AllocError>
     requires { is_lawful_selection selection.now ≡ true }
@@ -98,7 +103,7 @@ fn bind_selection(
 
 fn bind_filter(
     alloc: Global,
-    at: &Binding<'_>,
+    at: &Binding<'_, '_>,
     filter: &Option<Expr>,
 ) -> Result<Option<Bound>, AllocError>
     requires { is_lawful_filter filter.now ≡ true }
@@ -114,7 +119,7 @@ fn bind_filter(
 fn plan_with(
     alloc: Global,
     query: &Query,
-    columns: &Columns,
+    columns: &Lookup<'_>,
     used: Items<usize>,
 ) -> Result<Plan, AllocError>
     requires { IsLawful query.now }
@@ -149,8 +154,9 @@ fn plan(
     if has_wrong_source(columns, query.source.as_slice()) {
         return Ok(Err(BindFault::UnsupportedSource));
     }
+    let lookup = Lookup::make(alloc, columns)?;
     let mut finds: Finds = Items::new(alloc);
-    of_query(columns, query, &mut finds)?;
+    of_query(&lookup, query, &mut finds)?;
     if let Some(fault) = first_fault(finds.as_slice()) {
         return Ok(Err(fault));
     }
@@ -158,7 +164,7 @@ fn plan(
     if used.len() > MOST_COLUMNS {
         return Ok(Err(BindFault::TooManyColumns));
     }
-    Ok(Ok(plan_with(alloc, query, columns, used)?))
+    Ok(Ok(plan_with(alloc, query, &lookup, used)?))
 }
 
 /// Binds a query to an input's columns: its paths become the cells of a row, and its patterns are made.

@@ -9,6 +9,7 @@ ghost use Rattle.scan_plan.specs.Paths.{found};
 ghost use Rattle.scan_plan.specs.Bounds.{cell_index, bound_found, bound_path, bound_expr, bound_arm, bound_prod_part, bound_sum_part};
 
 use crate::columns::Columns;
+use crate::lookups::Lookup;
 use crate::paths::{Found, find, rest_of};
 use crate::plans::BindFault;
 use sql_bound::{Bound, BoundArm, BoundProdPart, BoundSumPart};
@@ -20,8 +21,8 @@ use text_view::Pattern;
 
 /// What the paths of a query are bound to.
 #[derive(Clone, Copy)]
-pub(crate) struct Binding<'q> {
-    pub columns: &'q Columns,
+pub(crate) struct Binding<'q, 'c> {
+    pub columns: &'q Lookup<'c>,
     pub alias: &'q Option<Name>,
     /// The columns of a file that the query uses.
     pub used: &'q [usize],
@@ -80,7 +81,7 @@ fn copy_steps(alloc: Global, steps: &[PathStep]) -> Result<Items<PathStep>, Allo
 /// What a path finds, as a bound expression.
 fn bind_found(
     alloc: Global,
-    at: &Binding<'_>,
+    at: &Binding<'_, '_>,
     rest: &[PathStep],
     found: Result<Found, BindFault>,
 ) -> Result<Bound, AllocError>
@@ -91,7 +92,7 @@ fn bind_found(
     };
     match found {
         Found::Column(place) => Ok(Bound::Cell {
-            index: cell_index(at.columns, at.used, place),
+            index: cell_index(at.columns.columns(), at.used, place),
             steps: Items::new(alloc),
         }),
         Found::Record => Ok(Bound::Cell {
@@ -104,14 +105,14 @@ fn bind_found(
 
 /// A path, bound.
 #[tactic(auto, unfolding(crate::specs::Bounds::bound_path))]
-fn bind_path(alloc: Global, at: &Binding<'_>, path: &[PathStep]) -> Result<Bound, AllocError>
+fn bind_path(alloc: Global, at: &Binding<'_, '_>, path: &[PathStep]) -> Result<Bound, AllocError>
     ensures { IfOk result (λ bound. bound ≡ bound_path at.now.columns.now (source_name at.now.alias.now) at.now.used.now path.now) }
 {
     bind_found(
         alloc,
         at,
         rest_of(at.alias, path),
-        find(at.columns, at.alias, path),
+        find(at.columns, at.alias, path)?,
     )
 }
 
@@ -124,7 +125,7 @@ fn made(alloc: Global, pattern: &str, escape: Option<char>) -> Result<Pattern, A
 }
 
 #[cycle(bind)]
-fn bind_boxed(alloc: Global, at: &Binding<'_>, expr: &Expr) -> Result<Boxed<Bound>, AllocError>
+fn bind_boxed(alloc: Global, at: &Binding<'_, '_>, expr: &Expr) -> Result<Boxed<Bound>, AllocError>
     requires { is_lawful_expression expr.now ≡ true }
     ensures { IfOk result (λ bound. bound ≡ bound_expr at.now.columns.now at.now.alias.now at.now.used.now expr.now) }
 {
@@ -135,7 +136,7 @@ fn bind_boxed(alloc: Global, at: &Binding<'_>, expr: &Expr) -> Result<Boxed<Boun
 #[cycle(bind)]
 fn bind_members(
     alloc: Global,
-    at: &Binding<'_>,
+    at: &Binding<'_, '_>,
     members: &[Expr],
 ) -> Result<Items<Bound>, AllocError>
     requires { each (map is_lawful_expression members.now) ≡ true }
@@ -152,7 +153,7 @@ fn bind_members(
 #[cycle(bind)]
 fn bind_sum_parts(
     alloc: Global,
-    at: &Binding<'_>,
+    at: &Binding<'_, '_>,
     parts: &[SumPart],
 ) -> Result<Items<BoundSumPart>, AllocError>
     requires { each (map is_lawful_sum_part parts.now) ≡ true }
@@ -172,7 +173,7 @@ fn bind_sum_parts(
 #[cycle(bind)]
 fn bind_prod_parts(
     alloc: Global,
-    at: &Binding<'_>,
+    at: &Binding<'_, '_>,
     parts: &[ProdPart],
 ) -> Result<Items<BoundProdPart>, AllocError>
     requires { each (map is_lawful_prod_part parts.now) ≡ true }
@@ -190,7 +191,11 @@ fn bind_prod_parts(
 }
 
 #[cycle(bind)]
-fn bind_arms(alloc: Global, at: &Binding<'_>, arms: &[Arm]) -> Result<Items<BoundArm>, AllocError>
+fn bind_arms(
+    alloc: Global,
+    at: &Binding<'_, '_>,
+    arms: &[Arm],
+) -> Result<Items<BoundArm>, AllocError>
     requires { each (map is_lawful_arm arms.now) ≡ true }
     ensures { IfOk result (λ bounds. bounds ≡ map (bound_arm at.now.columns.now at.now.alias.now at.now.used.now) arms.now) }
 {
@@ -205,7 +210,11 @@ fn bind_arms(alloc: Global, at: &Binding<'_>, arms: &[Arm]) -> Result<Items<Boun
 
 /// The bound expression of an expression.
 #[cycle(bind)]
-pub(crate) fn bind_expr(alloc: Global, at: &Binding<'_>, expr: &Expr) -> Result<Bound, AllocError>
+pub(crate) fn bind_expr(
+    alloc: Global,
+    at: &Binding<'_, '_>,
+    expr: &Expr,
+) -> Result<Bound, AllocError>
     requires { is_lawful_expression expr.now ≡ true }
     ensures { IfOk result (λ bound. bound ≡ bound_expr at.now.columns.now at.now.alias.now at.now.used.now expr.now) }
 {

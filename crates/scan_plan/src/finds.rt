@@ -7,6 +7,7 @@ ghost use Rattle.scan_plan.specs.Finds.{expr_finds, arm_finds, prod_part_finds, 
 ghost use Rattle.scan_plan.specs.Finds.{total_finds, each_column, all_finds, selection_finds, filter_finds, query_finds};
 
 use crate::columns::{Column, Columns};
+use crate::lookups::Lookup;
 use crate::paths::{Found, find, read_as};
 use crate::plans::BindFault;
 use sql_grammar::{
@@ -19,19 +20,19 @@ use std::alloc::AllocError;
 pub(crate) type Finds = Items<Result<Found, BindFault>>;
 
 fn of_path(
-    columns: &Columns,
+    columns: &Lookup<'_>,
     alias: &Option<Name>,
     path: &[PathStep],
     finds: &mut Finds,
 ) -> Result<(), AllocError>
     ensures { OnOk result (finds.new ≡ finds.old ++ found columns.now (source_name alias.now) path.now ∷ []) }
 {
-    finds.push(find(columns, alias, path))
+    finds.push(find(columns, alias, path)?)
 }
 
 #[cycle(finds)]
 fn of_members(
-    columns: &Columns,
+    columns: &Lookup<'_>,
     alias: &Option<Name>,
     members: &[Expr],
     finds: &mut Finds,
@@ -46,7 +47,7 @@ fn of_members(
 
 #[cycle(finds)]
 fn of_sum_parts(
-    columns: &Columns,
+    columns: &Lookup<'_>,
     alias: &Option<Name>,
     parts: &[SumPart],
     finds: &mut Finds,
@@ -61,7 +62,7 @@ fn of_sum_parts(
 
 #[cycle(finds)]
 fn of_prod_parts(
-    columns: &Columns,
+    columns: &Lookup<'_>,
     alias: &Option<Name>,
     parts: &[ProdPart],
     finds: &mut Finds,
@@ -76,7 +77,7 @@ fn of_prod_parts(
 
 #[cycle(finds)]
 fn of_arms(
-    columns: &Columns,
+    columns: &Lookup<'_>,
     alias: &Option<Name>,
     arms: &[Arm],
     finds: &mut Finds,
@@ -93,7 +94,7 @@ fn of_arms(
 /// Adds what each path of an expression finds.
 #[cycle(finds)]
 fn of_expr(
-    columns: &Columns,
+    columns: &Lookup<'_>,
     alias: &Option<Name>,
     expr: &Expr,
     finds: &mut Finds,
@@ -201,7 +202,7 @@ fn of_expr(
 }
 
 fn of_agg(
-    columns: &Columns,
+    columns: &Lookup<'_>,
     alias: &Option<Name>,
     agg: &Agg,
     finds: &mut Finds,
@@ -219,7 +220,7 @@ fn of_agg(
 }
 
 fn of_items(
-    columns: &Columns,
+    columns: &Lookup<'_>,
     alias: &Option<Name>,
     items: &[Item],
     finds: &mut Finds,
@@ -233,7 +234,7 @@ fn of_items(
 }
 
 fn of_totals(
-    columns: &Columns,
+    columns: &Lookup<'_>,
     alias: &Option<Name>,
     totals: &[Total],
     finds: &mut Finds,
@@ -272,7 +273,7 @@ fn of_all(columns: &Columns, finds: &mut Finds) -> Result<(), AllocError>
 }
 
 fn of_selection(
-    columns: &Columns,
+    columns: &Lookup<'_>,
     alias: &Option<Name>,
     selection: &Selection,
     finds: &mut Finds,
@@ -280,14 +281,14 @@ fn of_selection(
     ensures { OnOk result (finds.new ≡ finds.old ++ selection_finds columns.now alias.now selection.now) }
 {
     match selection {
-        Selection::All => of_all(columns, finds),
+        Selection::All => of_all(columns.columns(), finds),
         Selection::Rows(items) => of_items(columns, alias, items.as_slice(), finds),
         Selection::Totals(totals) => of_totals(columns, alias, totals.as_slice(), finds),
     }
 }
 
 fn of_filter(
-    columns: &Columns,
+    columns: &Lookup<'_>,
     alias: &Option<Name>,
     filter: &Option<Expr>,
     finds: &mut Finds,
@@ -303,7 +304,7 @@ fn of_filter(
 /// Adds what each path of a query finds, and each column where `*` is selected.
 #[tactic(auto, unfolding(crate::specs::Finds::query_finds))]
 pub(crate) fn of_query(
-    columns: &Columns,
+    columns: &Lookup<'_>,
     query: &Query,
     finds: &mut Finds,
 ) -> Result<(), AllocError>

@@ -5,6 +5,7 @@ mod bindings;
 mod bounds;
 mod columns;
 mod finds;
+mod lookups;
 mod names;
 mod paths;
 mod plans;

@@ -1,17 +1,18 @@
 //! What one path finds under an input's columns.
-ghost use Rattle.std.specs.Prelude.{◌≡◌, ◌&&◌, ◌<◌, ◌+◌, ◌-◌, ◌*◌, nat_le, if◌then◌else◌, bytes_eq, Some, None};
-ghost use Rattle.std.specs.List.{position_from};
-ghost use Rattle.std.specs.Option.{option_copied};
+ghost use Rattle.std.specs.Prelude.{◌≡◌, ◌&&◌, ◌<◌, ◌+◌, ◌-◌, ◌*◌, nat_le, if◌then◌else◌, bytes_eq, Some, None, IfOk};
+ghost use Rattle.std.specs.Option.{option_copied, option_or};
 ghost use Rattle.std.specs.Str.{str_eq_ignore_ascii_case};
 ghost use Rattle.sql_grammar.specs.Faults.{is_same_name, source_name};
-ghost use Rattle.scan_plan.specs.Paths.{is_named, rest_of, only_name, matches, counted, place_counted, field_named, column_named};
+ghost use Rattle.scan_plan.specs.Paths.{is_named, rest_of, only_name, counted, place_counted};
 ghost use Rattle.scan_plan.specs.Paths.{field_or_unknown, column_or_unknown, read_as, found_by_name, found_at, found};
+ghost use Rattle.scan_plan.specs.FirstPlaces.{place_of};
 ghost use Rattle.scan_plan.specs.Digits.{value_from, next_value};
 
 use crate::columns::{Column, Columns, Readable};
+use crate::lookups::Lookup;
 use crate::plans::BindFault;
 use sql_grammar::{Name, PathStep};
-use sql_tokens::TextBuf;
+use std::alloc::AllocError;
 
 /// What a path finds.
 #[derive(Clone, Copy, Debug, PartialEq, Eq)]
@@ -72,45 +73,6 @@ fn only_name(rest: &[PathStep]) -> Option<&Name>
         PathStep::Member(name) => { if more.is_empty() { Some(name) } else { None } }
         PathStep::Element(_) => None,
     }
-}
-
-/// Whether a name is a column's: an unquoted one in any ASCII case, a quoted one exactly.
-fn matches(name: &Name, column: &str) -> bool
-    ensures { result ≡ matches name.now column.now }
-{
-    if name.quoted {
-        name.text.text() == column
-    } else {
-        name.text.text().eq_ignore_ascii_case(column)
-    }
-}
-
-/// The first field of that name in a header.
-fn header_place(names: &[TextBuf], name: &Name) -> Option<usize>
-    ensures { result ≡ position_from (matches name.now) 0 names.now }
-{
-    let mut place = 0;
-    'columns: for column in names {
-        if matches(name, column.text()) {
-            return Some(place);
-        }
-        place += 1;
-    }
-    None
-}
-
-/// The first column of that name in a file.
-fn file_place(columns: &[Column], name: &Name) -> Option<usize>
-    ensures { result ≡ position_from (λ column. matches name.now column.name) 0 columns.now }
-{
-    let mut place = 0;
-    'columns: for column in columns {
-        if matches(name, column.name.text()) {
-            return Some(place);
-        }
-        place += 1;
-    }
-    None
 }
 
 /// The number of these digits, where they are digits and it is at most `most`.
@@ -176,23 +138,13 @@ fn place_counted(most: usize, text: &str) -> Option<usize>
     }
 }
 
-/// The first field of that name, else the one that it counts.
-fn field_named(names: &[TextBuf], name: &Name) -> Option<usize>
-    ensures { result ≡ field_named names.now name.now }
+/// The place of the first column of that name, else the one that it counts.
+fn place_named(columns: &Lookup<'_>, most: usize, name: &Name) -> Result<Option<usize>, AllocError>
+    ensures { IfOk result (λ place. place ≡ option_or (place_of columns.now name.now) (place_counted most name.now.text)) }
 {
-    match header_place(names, name) {
-        Some(place) => Some(place),
-        None => place_counted(MOST_FIELDS, name.text.text()),
-    }
-}
-
-/// The first column of that name, else the one that it counts.
-fn column_named(columns: &[Column], name: &Name) -> Option<usize>
-    ensures { result ≡ column_named columns.now name.now }
-{
-    match file_place(columns, name) {
-        Some(place) => Some(place),
-        None => place_counted(columns.len(), name.text.text()),
+    match columns.place_of(name)? {
+        Some(place) => Ok(Some(place)),
+        None => Ok(place_counted(most, name.text.text())),
     }
 }
 
@@ -229,37 +181,43 @@ fn column_or_unknown(columns: &[Column], place: Option<usize>) -> Result<Found, 
 }
 
 /// What a name alone finds.
-fn find_name(columns: &Columns, name: &Name) -> Result<Found, BindFault>
-    ensures { result ≡ found_by_name columns.now (Some name.now) }
+fn find_name(columns: &Lookup<'_>, name: &Name) -> Result<Result<Found, BindFault>, AllocError>
+    ensures { IfOk result (λ find. find ≡ found_by_name columns.now (Some name.now)) }
 {
-    match columns {
-        Columns::Json => Ok(Found::Record),
-        Columns::Document => Ok(Found::Record),
-        Columns::Positions => { field_or_unknown(place_counted(MOST_FIELDS, name.text.text())) }
-        Columns::Names(names) => field_or_unknown(field_named(names.as_slice(), name)),
-        Columns::Absent => Ok(Found::Missing),
-        Columns::Parquet(columns) => column_or_unknown(
-            columns.as_slice(),
-            column_named(columns.as_slice(), name),
-        ),
+    match columns.columns() {
+        Columns::Json => Ok(Ok(Found::Record)),
+        Columns::Document => Ok(Ok(Found::Record)),
+        Columns::Positions => Ok(field_or_unknown(place_counted(MOST_FIELDS, name.text.text()))),
+        Columns::Names(_) => Ok(field_or_unknown(place_named(columns, MOST_FIELDS, name)?)),
+        Columns::Absent => Ok(Ok(Found::Missing)),
+        Columns::Parquet(file) => Ok(column_or_unknown(
+            file.as_slice(),
+            place_named(columns, file.len(), name)?,
+        )),
     }
 }
 
-fn find_only(columns: &Columns, rest: &[PathStep]) -> Result<Found, BindFault>
-    ensures { result ≡ found_by_name columns.now (only_name rest.now) }
+fn find_only(
+    columns: &Lookup<'_>,
+    rest: &[PathStep],
+) -> Result<Result<Found, BindFault>, AllocError>
+    ensures { IfOk result (λ find. find ≡ found_by_name columns.now (only_name rest.now)) }
 {
     match only_name(rest) {
         Some(name) => find_name(columns, name),
-        None => Err(BindFault::UnknownColumn),
+        None => Ok(Err(BindFault::UnknownColumn)),
     }
 }
 
-fn find_rest(columns: &Columns, rest: &[PathStep]) -> Result<Found, BindFault>
-    ensures { result ≡ found_at columns.now rest.now }
+fn find_rest(
+    columns: &Lookup<'_>,
+    rest: &[PathStep],
+) -> Result<Result<Found, BindFault>, AllocError>
+    ensures { IfOk result (λ find. find ≡ found_at columns.now rest.now) }
 {
-    match columns {
-        Columns::Json => Ok(Found::Record),
-        Columns::Document => Ok(Found::Record),
+    match columns.columns() {
+        Columns::Json => Ok(Ok(Found::Record)),
+        Columns::Document => Ok(Ok(Found::Record)),
         Columns::Positions => find_only(columns, rest),
         Columns::Names(_) => find_only(columns, rest),
         Columns::Absent => find_only(columns, rest),
@@ -270,11 +228,11 @@ fn find_rest(columns: &Columns, rest: &[PathStep]) -> Result<Found, BindFault>
 /// What a path finds, or the fault that it is.
 #[tactic(auto, unfolding(crate::specs::Paths::found))]
 pub(crate) fn find(
-    columns: &Columns,
+    columns: &Lookup<'_>,
     alias: &Option<Name>,
     path: &[PathStep],
-) -> Result<Found, BindFault>
-    ensures { result ≡ found columns.now (source_name alias.now) path.now }
+) -> Result<Result<Found, BindFault>, AllocError>
+    ensures { IfOk result (λ find. find ≡ found columns.now (source_name alias.now) path.now) }
 {
     find_rest(columns, rest_of(alias, path))
 }
