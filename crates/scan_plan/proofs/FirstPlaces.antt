@@ -14,7 +14,7 @@ module _ {Y : Type 0} (names : List (List ℕ)) (exact any_case : BTreeMap (Stri
   module _ (e : HasFirstPlaces false names exact) (a : HasFirstPlaces true names any_case) where
     by_flag : (quoted : Bool) (text : List ℕ)
         → (if quoted then get_by_text exact text else get_by_text any_case (str_to_ascii_lowercase text))
-          ≡ position_from (λ column. if quoted then bytes_eq text column else str_eq_ignore_ascii_case text column) 0 names
+        ≡ position_from (λ column. if quoted then bytes_eq text column else str_eq_ignore_ascii_case text column) 0 names
     unfolding HasFirstPlaces
     by_flag true text = e text
     by_flag false text = a (str_to_ascii_lowercase text)

@@ -14,7 +14,7 @@ names-preserved c =
     record {
       within = omega (arith, c.names.invariant.within);
       has = one_more c.args.any_case names c.names.place c.names.places c.insert.new.self (string_bytes c.in_ok-key.key) some c.names.invariant.within
-        (rw c.name_at.ensures at key_is) puts c.names.invariant.has;
+          (rw c.name_at.ensures at key_is) puts c.names.invariant.has;
     }
 
 pub returns : goal.returns
